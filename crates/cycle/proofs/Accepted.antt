@@ -1,0 +1,49 @@
+-- What it says of the arguments that the tests of a call are clear. Assumes nothing.
+use Prim.Native.Nat.{ℕ, _≤_, _<_}
+use mathlib.Core.Path.{_≡_, sym}
+use mathlib.Core.List.{List}
+use native.Mathlib.Omega.{arith}
+use borrow.Author.Tests.{ltb-true, ltb-false, eqb-false, not-false}
+use lib.ListN.{length, getD}
+use Rattle.lists.specs.First.{firstBad}
+use Rattle.lists.proofs.First.{before-first}
+use Rattle.refusal.specs.Limits.{longestCycle, mostColumns}
+use Rattle.refusal.specs.Outcome.{Clear}
+use Rattle.cycle.specs.Distance.{isReading}
+use Rattle.cycle.specs.Calls.{cycleRules, pairRules, rowRules}
+
+pub record Pair (c a b : ℕ) : Type 0 where
+  pub cycle-some : 0 < c
+  pub cycle-fits : c ≤ longestCycle
+  pub first : a < c
+  pub second : b < c
+
+pub pair-clear : (c a b : ℕ) → Clear (pairRules c a b) → Pair c a b
+pair-clear c a b clear =
+    let some : (c ≡ 0 → ⊥) = eqb-false c 0 (clear .0) in
+    record {
+      cycle-some = omega arith;
+      cycle-fits = ltb-false longestCycle c (clear .1 .0);
+      first = ltb-true a c (not-false _ (clear .1 .1 .0));
+      second = ltb-true b c (not-false _ (clear .1 .1 .1 .0));
+    }
+
+pub record Row (c : ℕ) (row : List ℕ) : Type 0 where
+  pub cycle-some : 0 < c
+  pub cycle-fits : c ≤ longestCycle
+  pub short : length row ≤ mostColumns
+  pub good : length row ≤ firstBad (isReading c) row
+
+pub row-clear : (c : ℕ) (row : List ℕ) → Clear (rowRules c row) → Row c row
+row-clear c row clear =
+    let some : (c ≡ 0 → ⊥) = eqb-false c 0 (clear .0) in
+    record {
+      cycle-some = omega arith;
+      cycle-fits = ltb-false longestCycle c (clear .1 .0);
+      short = ltb-false mostColumns (length row) (clear .1 .1 .1 .0);
+      good = ltb-false (firstBad (isReading c) row) (length row) (clear .1 .1 .1 .1 .0);
+    }
+
+-- where no reading is bad, each is a tick
+pub reading-below : (c : ℕ) (readings : List ℕ) (k : ℕ) → length readings ≤ firstBad (isReading c) readings → k < length readings → getD readings k 0 < c
+reading-below c readings k good h = ltb-true _ c (before-first (isReading c) 0 readings k (omega arith))

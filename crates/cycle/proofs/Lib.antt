@@ -1,0 +1,5 @@
+pub mod Accepted
+pub mod DistanceLaws
+pub mod StepLaws
+pub mod DriftLaws
+pub mod SignedLaws

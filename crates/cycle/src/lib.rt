@@ -1,0 +1,85 @@
+// The cycle of document 01, "The dial": distance, signed step, listening slot and drift. Ticks are
+// 16 bits, the cycle 32; each call tests its arguments and answers for every input.
+pub mod ticks;
+pub mod verdicts;
+
+use refusal::Refusal;
+use refusal::Verdict;
+use ticks::ahead_of;
+use ticks::apart;
+use ticks::drift_of;
+use ticks::signed_step;
+use verdicts::pair_verdict;
+use verdicts::row_verdict;
+ghost use mathlib.Core.Path.{_≡_};
+ghost use Rattle.cycle.specs.Calls.{distanceCall, distanceTold, stepCall, stepTold, slotCall, slotTold, driftCall, driftTold};
+
+pub enum DistanceAnswer {
+    Distance(u16),
+    Refused(Refusal),
+}
+
+pub enum StepAnswer {
+    Step(i32),
+    Refused(Refusal),
+}
+
+pub enum SlotAnswer {
+    Inside,
+    Outside,
+    Refused(Refusal),
+}
+
+pub enum DriftAnswer {
+    Drift(i32),
+    Refused(Refusal),
+}
+
+// The distance of two ticks.
+pub fn distance(cycle: u32, a: u16, b: u16) -> DistanceAnswer
+    ensures { λ r. ⌜ distanceTold r ≡ distanceCall cycle a b ⌝ }
+{
+    match pair_verdict(cycle, a, b) {
+        Verdict::Refused(f) => DistanceAnswer::Refused(f),
+        Verdict::Passed => DistanceAnswer::Distance(apart(cycle as u16, a, b)),
+    }
+}
+
+// The signed step from a to b.
+pub fn step(cycle: u32, a: u16, b: u16) -> StepAnswer
+    ensures { λ r. ⌜ stepTold r ≡ stepCall cycle a b ⌝ }
+{
+    match pair_verdict(cycle, a, b) {
+        Verdict::Refused(f) => StepAnswer::Refused(f),
+        Verdict::Passed => StepAnswer::Step(signed_step(cycle, a as u32, b as u32)),
+    }
+}
+
+// Whether tick p is in the slot that starts at s and is w wide.
+pub fn slot(cycle: u32, p: u16, s: u16, w: u16) -> SlotAnswer
+    ensures { λ r. ⌜ slotTold r ≡ slotCall cycle p s w ⌝ }
+{
+    match pair_verdict(cycle, p, s) {
+        Verdict::Refused(f) => SlotAnswer::Refused(f),
+        Verdict::Passed => {
+            if cycle <= w as u32 {
+                return SlotAnswer::Refused(Refusal::Reading(2));
+            }
+            if ahead_of(cycle, s as u32, p as u32) <= w as u32 {
+                SlotAnswer::Inside
+            } else {
+                SlotAnswer::Outside
+            }
+        }
+    }
+}
+
+// The drift of a row: the sum of the steps between neighbours.
+pub fn drift(cycle: u32, row: &[u16]) -> DriftAnswer
+    ensures { λ r. ⌜ driftTold r ≡ driftCall cycle (now (row .entry)) ⌝ }
+{
+    match row_verdict(cycle, row) {
+        Verdict::Refused(f) => DriftAnswer::Refused(f),
+        Verdict::Passed => DriftAnswer::Drift(drift_of(cycle, row)),
+    }
+}

@@ -1,0 +1,81 @@
+// Arithmetic on ticks that have been tested.
+ghost use mathlib.Core.Path.{_≡_};
+ghost use mathlib.Core.Bool.{cond};
+ghost use Prim.Native.Nat.{_-_, _^_, _≤_, _<_, min};
+ghost use lib.IntN.{pos, _-ℤ_};
+ghost use lib.ListN.{length};
+ghost use Rattle.lists.specs.First.{firstBad};
+ghost use Rattle.cycle.specs.Distance.{distance, isReading};
+ghost use Rattle.cycle.specs.Step.{ahead, isForward, step, drift};
+
+// The distance of two ticks: 16 bits wide and free of branches, for loops over many.
+pub fn apart(cycle: u16, a: u16, b: u16) -> u16
+    ensures { λ r. ⌜ r ≡ distance cycle a b ⌝ }
+{
+    let gap = less(a, b) + less(b, a);
+    least(gap, less(cycle, gap))
+}
+
+// a - b, or 0 where b is larger.
+fn less(a: u16, b: u16) -> u16
+    ensures { λ r. ⌜ r ≡ a - b ⌝ }
+{
+    if b <= a { a - b } else { 0 }
+}
+
+fn least(a: u16, b: u16) -> u16
+    ensures { λ r. ⌜ r ≡ min a b ⌝ }
+{
+    if a <= b { a } else { b }
+}
+
+// How many ticks b lies ahead of a.
+pub fn ahead_of(cycle: u32, a: u32, b: u32) -> u32
+    requires { ⌜ (a < cycle) × (b < cycle) ⌝ }
+    ensures { λ r. ⌜ r ≡ ahead cycle a b ⌝ }
+{
+    if a <= b { b - a } else { cycle - (a - b) }
+}
+
+// The whole cycle that a step of e ticks ahead takes off again: none where it goes forward.
+fn turn_back(cycle: u32, e: u32) -> u32
+    requires { ⌜ e < 2 ^ 31 ⌝ }
+    ensures { λ r. ⌜ r ≡ cond (isForward cycle e) 0 cycle ⌝ }
+{
+    if 2 * e <= cycle { 0 } else { cycle }
+}
+
+// up - back
+fn signed(up: u32, back: u32) -> i32
+    requires { ⌜ (up < 2 ^ 30) × (back < 2 ^ 30) ⌝ }
+    ensures { λ r. ⌜ r ≡ pos up -ℤ pos back ⌝ }
+{
+    up as i32 - back as i32
+}
+
+// The signed step from a to b.
+pub fn signed_step(cycle: u32, a: u32, b: u32) -> i32
+    requires { ⌜ (a < cycle) × (b < cycle) × (cycle < 2 ^ 16) ⌝ }
+    ensures { λ r. ⌜ r ≡ step cycle a b ⌝ }
+{
+    let e = ahead_of(cycle, a, b);
+    signed(e, turn_back(cycle, e))
+}
+
+// The sum of the steps between neighbours: the ways ahead and the cycles to take off are summed
+// each by itself, and subtracted once.
+pub fn drift_of(cycle: u32, row: &[u16]) -> i32
+    requires { ⌜ (0 < cycle) × (cycle < 2 ^ 16) × (length (now row) ≤ 8192) × (length (now row) ≤ firstBad (isReading cycle) (now row)) ⌝ }
+    ensures { λ r. ⌜ r ≡ drift cycle (now (row .entry)) ⌝ }
+{
+    let mut up: u32 = 0;
+    let mut back: u32 = 0;
+    let mut i: usize = 0;
+    while i + 1 < row.len() {
+        let e = ahead_of(cycle, row[i] as u32, row[i + 1] as u32);
+        up += e;
+        back += turn_back(cycle, e);
+        i += 1;
+    }
+    signed(up, back)
+}

@@ -1,0 +1,85 @@
+// The tests of the calls, in groups that calls share: each answers the first refusal that is due.
+use refusal::Refusal;
+use refusal::Verdict;
+use refusal::limits::LONGEST_CYCLE;
+use refusal::limits::MOST_COLUMNS;
+ghost use mathlib.Core.Path.{_≡_};
+ghost use mathlib.Core.List.{[], _∷_};
+ghost use Rattle.lists.specs.First.{firstBad};
+ghost use Rattle.refusal.specs.Outcome.{firstDue, verdict};
+ghost use Rattle.cycle.specs.Distance.{isReading};
+ghost use Rattle.cycle.specs.Calls.{cycleRules, pairRules, readingRule, rowRules};
+
+// Test 1, for a call that takes cycles up to a limit.
+pub fn cycle_verdict(limit: u32, cycle: u32) -> Verdict
+    ensures { λ r. ⌜ verdict r ≡ firstDue (cycleRules limit cycle) tt ⌝ }
+{
+    if cycle == 0 {
+        return Verdict::Refused(Refusal::Cycle);
+    }
+    if limit < cycle {
+        return Verdict::Refused(Refusal::Cycle);
+    }
+    Verdict::Passed
+}
+
+// Test 9 on a whole image or row.
+pub fn reading_verdict(cycle: u32, readings: &[u16]) -> Verdict
+    ensures { λ r. ⌜ verdict r ≡ firstDue (readingRule cycle (now (readings .entry)) ∷ []) tt ⌝ }
+{
+    let k = first_bad(cycle, readings);
+    if k < readings.len() {
+        return Verdict::Refused(Refusal::Reading(k));
+    }
+    Verdict::Passed
+}
+
+// The index of the first reading that is none, or the number of readings.
+fn first_bad(cycle: u32, readings: &[u16]) -> usize
+    ensures { λ r. ⌜ r ≡ firstBad (isReading cycle) (now (readings .entry)) ⌝ }
+{
+    let mut i = 0;
+    while i < readings.len() {
+        if cycle <= readings[i] as u32 {
+            return i;
+        }
+        i += 1;
+    }
+    i
+}
+
+// The tests of distance and step, and the first ones of slot.
+pub fn pair_verdict(cycle: u32, a: u16, b: u16) -> Verdict
+    ensures { λ r. ⌜ verdict r ≡ firstDue (pairRules cycle a b) tt ⌝ }
+{
+    match cycle_verdict(LONGEST_CYCLE, cycle) {
+        Verdict::Refused(f) => Verdict::Refused(f),
+        Verdict::Passed => {
+            if cycle <= a as u32 {
+                return Verdict::Refused(Refusal::Reading(0));
+            }
+            if cycle <= b as u32 {
+                return Verdict::Refused(Refusal::Reading(1));
+            }
+            Verdict::Passed
+        }
+    }
+}
+
+// The tests of drift.
+pub fn row_verdict(cycle: u32, row: &[u16]) -> Verdict
+    ensures { λ r. ⌜ verdict r ≡ firstDue (rowRules cycle (now (row .entry))) tt ⌝ }
+{
+    match cycle_verdict(LONGEST_CYCLE, cycle) {
+        Verdict::Refused(f) => Verdict::Refused(f),
+        Verdict::Passed => {
+            if row.len() == 0 {
+                return Verdict::Refused(Refusal::Size);
+            }
+            if (MOST_COLUMNS as usize) < row.len() {
+                return Verdict::Refused(Refusal::Size);
+            }
+            reading_verdict(cycle, row)
+        }
+    }
+}

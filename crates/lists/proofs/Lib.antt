@@ -1,0 +1,6 @@
+pub mod Members
+pub mod Tabulate
+pub mod Written
+pub mod First
+pub mod Least
+pub mod Difference

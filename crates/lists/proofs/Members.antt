@@ -1,0 +1,27 @@
+-- Laws of `In` and `Each`. Assumes nothing.
+use Prim.Native.Nat.{ℕ}
+use mathlib.Core.Path.{_≡_, refl, subst, sym}
+use mathlib.Core.Logic.{_⊎_, inl, inr, ⊎-elim}
+use mathlib.Core.List.{List, [], _∷_, _++_}
+use native.Mathlib.Decide.{ℕ-discrete}
+use Rattle.lists.specs.Members.{In, Each}
+
+-- what holds of each element holds of the one at hand
+pub each-in : {A : Type 0} (P : A → Type 0) (y : A) (xs : List A) → Each P xs → In y xs → P y
+each-in P y [] e i = absurd i
+each-in P y (x ∷ xs) e (inl i) = subst P (sym i) (e .0)
+each-in P y (x ∷ xs) e (inr i) = each-in P y xs (e .1) i
+
+pub each-append : {A : Type 0} (P : A → Type 0) (xs ys : List A) → Each P xs → Each P ys → Each P (xs ++ ys)
+each-append P [] ys e f = f
+each-append P (x ∷ xs) ys e f = (e .0, each-append P xs ys (e .1) f)
+
+-- whether a number is an element
+pub in-dec : (y : ℕ) (xs : List ℕ) → Dec (In y xs)
+in-dec y [] = no (λ i. i)
+in-dec y (x ∷ xs) = go (ℕ-discrete y x) (in-dec y xs)
+  where
+    go : Dec (y ≡ x) → Dec (In y xs) → Dec ((y ≡ x) ⊎ In y xs)
+    go (yes e) d = yes (inl e)
+    go (no n) (yes i) = yes (inr i)
+    go (no n) (no m) = no (⊎-elim n m)

@@ -1,0 +1,114 @@
+-- Laws of `written`: what a loop that sets one place after the other leaves, and what a lent part that comes back leaves.
+-- Assumes nothing.
+use Prim.Native.Nat.{ℕ, suc, _+_, _-_, _≤_, _<_}
+use mathlib.Core.Path.{_≡_, refl, ap, sym, _∙_}
+use mathlib.Core.List.{List, [], _∷_, _++_, append-assoc, append-nil}
+use native.Mathlib.Omega.{arith}
+use native.Mathlib.Nat.{sub-self, sub-zero, le-of-lt}
+use native.Mathlib.Numerals.{add-one}
+use lib.ListN.{length, take, drop, getD, set, take-append-drop, List·getD-append, length-append, length-take, length-drop, length-set}
+use lib.Seq.{take-at, drop-at, drop-drop, drop-cons, drop-length, set-at, length-take-le, getD-drop, getD-take, getD-append-add}
+use borrow.Rule.Slice.PartMut.{putMid}
+use Rattle.lists.specs.Tabulate.{tabulate, written}
+use Rattle.lists.proofs.Tabulate.{length-tabulate, getD-tabulate, tabulate-append}
+
+whole : (a k : ℕ) → a ≤ k → a + (k - a) ≡ k
+whole a k h = omega arith
+
+-- the element k of two lists in a row, of which the first has n elements, at most k
+getD-past : {A : Type 0} (d : A) (xs ys : List A) (k n : ℕ) → length xs ≡ n → n ≤ k → getD (xs ++ ys) k d ≡ getD ys (k - n) d
+getD-past d xs ys k n e h =
+    ap (λ (m : ℕ). getD (xs ++ ys) m d) (sym (whole n k h) ∙ ap (λ (m : ℕ). m + (k - n)) (sym e)) ∙ getD-append-add xs ys (k - n) d
+
+-- nothing is set between a place and itself
+pub written-none : {A : Type 0} (f : ℕ → A) (a : ℕ) (l : List A) → written f a a l ≡ l
+unfolding written
+written-none f a l = rw (sub-self, take-append-drop)
+
+-- a list that is set from end to end
+pub written-all : {A : Type 0} (f : ℕ → A) (l : List A) → written f 0 (length l) l ≡ tabulate f 0 (length l)
+unfolding written
+written-all f l = rw (sub-zero, drop-length l, append-nil)
+
+module _ {A : Type 0} (f : ℕ → A) (a b : ℕ) (l : List A) (order : a ≤ b) (room : b ≤ length l) where
+  front : List A
+  front = take a l ++ tabulate f a (b - a)
+
+  split : written f a b l ≡ front ++ drop b l
+  unfolding written front
+  split = sym (append-assoc (take a l) (tabulate f a (b - a)) (drop b l))
+
+  length-front : length front ≡ b
+  unfolding front
+  length-front = simp (length-append, length-take, length-tabulate) (omega arith)
+
+  pub length-written : length (written f a b l) ≡ length l
+  unfolding written
+  length-written = simp (length-append, length-take, length-drop, length-tabulate) (omega arith)
+
+  -- a place inside is set, and a place outside is as it was
+  pub written-inside : (d : A) (k : ℕ) → a ≤ k → k < b → getD (written f a b l) k d ≡ f k
+  unfolding written
+  written-inside d k h g =
+      getD-past d (take a l) (tabulate f a (b - a) ++ drop b l) k a (length-take-le a l (omega arith)) h
+      ∙ List·getD-append (tabulate f a (b - a)) (drop b l) d (k - a) (omega (arith, length-tabulate f a (b - a)))
+      ∙ getD-tabulate f d a (b - a) (k - a) (omega arith) ∙ ap f (whole a k h)
+
+  pub written-before : (d : A) (k : ℕ) → k < a → getD (written f a b l) k d ≡ getD l k d
+  unfolding written
+  written-before d k h =
+      List·getD-append (take a l) (tabulate f a (b - a) ++ drop b l) d k (omega (arith, length-take a l)) ∙ getD-take a l k d h
+
+  pub written-after : (d : A) (k : ℕ) → b ≤ k → getD (written f a b l) k d ≡ getD l k d
+  written-after d k h =
+      rw split (getD-past d front (drop b l) k b length-front h ∙ getD-drop b l (k - b) d ∙ ap (λ (m : ℕ). getD l m d) (whole b k h))
+
+  -- n places more
+  seam : (m n k : ℕ) → a + m ≡ b → m + n ≡ k → tabulate f a m ++ tabulate f b n ≡ tabulate f a k
+  seam m n k p q = rw (← p, ← q) (tabulate-append f a m n)
+
+  longer : (n : ℕ) (rest : List A) → front ++ (tabulate f b n ++ rest) ≡ take a l ++ (tabulate f a (b + n - a) ++ rest)
+  unfolding front
+  longer n rest =
+      rw (append-assoc, ← (append-assoc (tabulate f a (b - a)) (tabulate f b n) rest), seam (b - a) n (b + n - a) (omega arith) (omega arith))
+
+  -- one place more is set
+  pub written-turn : {v : A} → b < length l → v ≡ f b → set (written f a b l) b v ≡ written f a (b + 1) l
+  unfolding written
+  written-turn {v} h e =
+      rw (split, drop-cons l b v h, set-at front (getD l b v) (drop (suc b) l) v b length-front, e, add-one b) (rw (add-one b) at (longer 1 (drop (suc b) l)))
+
+  -- a part that was lent comes back set
+  pub written-part : (n : ℕ) (part : List A) → b + n ≤ length l → part ≡ tabulate f b n
+      → putMid b (b + n - b) (written f a b l) part ≡ written f a (b + n) l
+  unfolding written
+  written-part n part h e =
+      let d : b + (b + n - b) ≡ b + n = omega arith in
+      rw (split, take-at front (drop b l) b length-front, drop-at front (drop b l) b length-front, drop-drop, d, e) (longer n (drop (b + n) l))
+
+-- A loop has set the places from a up to b of l₀, and l is what it has so far.
+pub record Run {A : Type 0} (f : ℕ → A) (a : ℕ) (l₀ l : List A) (b : ℕ) : Type 0 where
+  pub is : l ≡ written f a b l₀
+  pub len : length l ≡ length l₀
+  pub order : a ≤ b
+
+pub run-start : {A : Type 0} {f : ℕ → A} {a : ℕ} {l : List A} → Run f a l l a
+run-start {f = f} {a} {l} = record { is = sym (written-none f a l); len = refl; order = omega arith }
+
+module _ {A : Type 0} {f : ℕ → A} {a : ℕ} {l₀ l : List A} {b : ℕ} (r : Run f a l₀ l b) where
+  pub run-turn : {v : A} → b < length l₀ → v ≡ f b → Run f a l₀ (set l b v) (b + 1)
+  run-turn {v} h e = record {
+    is = rw (r .is) (written-turn f a b l₀ (r .order) (le-of-lt h) h e);
+    len = length-set l b v ∙ r .len;
+    order = omega (arith, r .order);
+  }
+
+  -- a place that is still to come holds what it held
+  pub run-ahead : (d : A) (k : ℕ) → b ≤ length l₀ → b ≤ k → getD l k d ≡ getD l₀ k d
+  run-ahead d k h g = rw (r .is) (written-after f a b l₀ (r .order) h d k g)
+
+  pub run-part : (n : ℕ) (part : List A) → b + n ≤ length l₀ → part ≡ tabulate f b n → Run f a l₀ (putMid b (b + n - b) l part) (b + n)
+  run-part n part h e = record { is = back; len = ap length back ∙ length-written f a (b + n) l₀ (omega (arith, r .order)) h; order = omega (arith, r .order) }
+    where
+      back : putMid b (b + n - b) l part ≡ written f a (b + n) l₀
+      back = rw (r .is) (written-part f a b l₀ (r .order) (omega arith) n part h e)

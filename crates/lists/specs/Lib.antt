@@ -1,0 +1,5 @@
+pub mod Members
+pub mod Tabulate
+pub mod First
+pub mod Least
+pub mod Difference

@@ -1,0 +1,43 @@
+-- What a call is answered: the first refusal that is due, in the order in which the call tests, or its result.
+-- Document 01, "Refused calls": each refusal comes if its condition holds and none before it does, and never otherwise.
+use Prim.Native.Nat.{ℕ}
+use mathlib.Core.Path.{_≡_}
+use mathlib.Core.Bool.{Bool, false, cond}
+use mathlib.Core.List.{List, [], _∷_}
+use Rattle.lists.specs.Members.{Each}
+use Rattle.refusal.specs.declared.Refusal.{Refusal}
+use Rattle.refusal.specs.declared.Verdict.{Verdict}
+use Rattle.refusal.specs.declared.Verdict.the-variants.{Passed, Refused}
+use Rattle.refusal.specs.Table.{numberOf, placeOf}
+
+-- a result, or the number and the place of a refusal
+pub data Outcome (A : Type 0) : Type 0 where
+  accepted : A → Outcome A
+  refused : ℕ → ℕ → Outcome A
+
+-- a test: whether the refusal is due, its number and its place
+pub record Rule : Type 0 where
+  pub due : Bool
+  pub number : ℕ
+  pub place : ℕ
+
+abbrev pub rule : Bool → ℕ → ℕ → Rule
+rule due number place = record { due = due; number = number; place = place }
+
+-- the tests in order, and the result if none is due
+unfoldable pub firstDue : {A : Type 0} → List Rule → A → Outcome A
+firstDue [] result = accepted result
+firstDue (r ∷ rs) result = cond (r .due) (refused (r .number) (r .place)) (firstDue rs result)
+
+-- no test of the list is due
+abbrev pub Clear : List Rule → Type 0
+Clear = Each (λ r. r .due ≡ false)
+
+-- a refusal as an outcome
+abbrev pub refusal : {A : Type 0} → Refusal → Outcome A
+refusal r = refused (numberOf r) (placeOf r)
+
+-- what a group of tests says
+abbrev pub verdict : Verdict → Outcome Unit
+verdict Passed = accepted tt
+verdict (Refused r) = refusal r
