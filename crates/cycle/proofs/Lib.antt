@@ -1,4 +1,5 @@
 pub mod Accepted
+pub mod Ways
 pub mod DistanceLaws
 pub mod StepLaws
 pub mod DriftLaws

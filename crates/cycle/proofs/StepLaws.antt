@@ -1,47 +1,16 @@
--- Laws of the way ahead and the signed step. Assumes nothing.
+-- Laws of the signed step. Assumes nothing.
 use Prim.Native.Nat.{ℕ, zero, suc, _+_, _-_, _*_, _%_, _≤_, _<_, min}
 use mathlib.Core.Path.{_≡_, refl, ap, sym, _∙_}
 use mathlib.Core.Bool.{Bool, true, false, cond}
 use native.Mathlib.Omega.{arith}
 use native.Mathlib.Decide.{decLe}
-use native.Mathlib.Nat.{mod-eq-of-lt, add-mod-right, mul-one}
+use native.Mathlib.Nat.{mul-one}
 use borrow.Author.Tests.{le-leb, lt-leb, lt-ltb}
 use lib.IntN.{ℤ, pos, negℤ, natAbs, _+ℤ_, _-ℤ_, +ℤ-assoc, +ℤ-negℤ-cancel}
 use Rattle.cycle.specs.Distance.{distance}
 use Rattle.cycle.specs.Step.{ahead, isForward, stepOf, step}
-
--- b lies e ticks ahead of a, over tick 0 or not
-pub data Way (c a b e : ℕ) : Type 0 where
-  straight : a + e ≡ b → Way c a b e
-  round : a + e ≡ b + c → Way c a b e
-
--- the ticks from a to b, going ahead, are e
-pub record Ahead (c a b e : ℕ) : Type 0 where
-  pub less : e < c
-  pub way : Way c a b e
-
-pub ahead-way : (c a b : ℕ) → a < c → b < c → Ahead c a b (ahead c a b)
-unfolding ahead
-ahead-way c a b h g = go (decLe a b)
-  where
-    go : Dec (a ≤ b) → Ahead c a b (ahead c a b)
-    go (yes l) =
-        let s : b + (c - a) ≡ (b - a) + c = omega arith in
-        let e : (b + (c - a)) % c ≡ b - a = ap (λ (x : ℕ). x % c) s ∙ add-mod-right (b - a) c ∙ mod-eq-of-lt (omega arith) in
-        record { less = omega arith; way = straight (omega arith) }
-    go (no l) =
-        let e : (b + (c - a)) % c ≡ b + (c - a) = mod-eq-of-lt (omega arith) in
-        record { less = omega arith; way = round (omega arith) }
-
-way-only : {c a b d e : ℕ} → d < c → e < c → Way c a b d → Way c a b e → d ≡ e
-way-only h g (straight x) (straight y) = omega arith
-way-only h g (straight x) (round y) = omega arith
-way-only h g (round x) (straight y) = omega arith
-way-only h g (round x) (round y) = omega arith
-
--- a number that leads from a to b is the way ahead
-pub ahead-only : {c a b e : ℕ} → a < c → b < c → e < c → Way c a b e → e ≡ ahead c a b
-ahead-only {c} {a} {b} h g l w = let r = ahead-way c a b h g in way-only l (r .less) w (r .way)
+use Rattle.cycle.proofs.Ways.{Way, Ahead, ahead-way, distance-way}
+use Rattle.cycle.proofs.Ways.Way.{straight, round}
 
 pub forward-yes : (c e : ℕ) → 2 * e ≤ c → isForward c e ≡ true
 unfolding isForward
@@ -50,12 +19,6 @@ forward-yes c e h = le-leb (2 * e) c h
 pub forward-no : (c e : ℕ) → c < 2 * e → isForward c e ≡ false
 unfolding isForward
 forward-no c e h = lt-leb (2 * e) c h
-
--- the distance goes the shorter of the two ways round
-distance-way : {c a b e : ℕ} → a < c → b < c → e < c → Way c a b e → distance c a b ≡ min e (c - e)
-unfolding distance
-distance-way h g l (straight w) = omega arith
-distance-way h g l (round w) = omega arith
 
 size-back : (e c : ℕ) → e < c → natAbs (pos e -ℤ pos c) ≡ c - e
 size-back e zero h = absurd (omega arith)
@@ -70,7 +33,7 @@ step-size c a b h g = go (decLe (2 * ahead c a b) c)
     r = ahead-way c a b h g
 
     d : distance c a b ≡ min (ahead c a b) (c - ahead c a b)
-    d = distance-way h g (r .less) (r .way)
+    d = distance-way (c - ahead c a b) h g (omega (arith, r .less)) (r .way)
 
     go : Dec (2 * ahead c a b ≤ c) → natAbs (stepOf c (ahead c a b)) ≡ distance c a b
     go (yes l) = rw (forward-yes c (ahead c a b) l) (omega (arith, d))

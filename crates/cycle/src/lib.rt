@@ -1,15 +1,18 @@
 // The cycle of document 01, "The dial": distance, signed step, listening slot and drift. Ticks are
 // 16 bits, the cycle 32; each call tests its arguments and answers for every input.
-pub mod ticks;
-pub mod verdicts;
+mod ticks;
+mod verdicts;
 
 use refusal::Refusal;
 use refusal::Verdict;
 use ticks::ahead_of;
-use ticks::apart;
+pub use ticks::apart;
 use ticks::drift_of;
 use ticks::signed_step;
+pub use ticks::size;
+pub use verdicts::cycle_verdict;
 use verdicts::pair_verdict;
+pub use verdicts::reading_verdict;
 use verdicts::row_verdict;
 ghost use mathlib.Core.Path.{_≡_};
 ghost use Rattle.cycle.specs.Calls.{distanceCall, distanceTold, stepCall, stepTold, slotCall, slotTold, driftCall, driftTold};

@@ -1,9 +1,11 @@
 -- Laws of `In` and `Each`. Assumes nothing.
-use Prim.Native.Nat.{ℕ}
+use Prim.Native.Nat.{ℕ, _<_}
 use mathlib.Core.Path.{_≡_, refl, subst, sym}
 use mathlib.Core.Logic.{_⊎_, inl, inr, ⊎-elim}
 use mathlib.Core.List.{List, [], _∷_, _++_}
+use native.Mathlib.Omega.{arith}
 use native.Mathlib.Decide.{ℕ-discrete}
+use lib.ListN.{length}
 use Rattle.lists.specs.Members.{In, Each}
 
 -- what holds of each element holds of the one at hand
@@ -25,3 +27,8 @@ in-dec y (x ∷ xs) = go (ℕ-discrete y x) (in-dec y xs)
     go (yes e) d = yes (inl e)
     go (no n) (yes i) = yes (inr i)
     go (no n) (no m) = no (⊎-elim n m)
+
+-- a list with an element is not empty
+pub in-some : {A : Type 0} (y : A) (xs : List A) → In y xs → 0 < length xs
+in-some y [] i = absurd i
+in-some y (x ∷ xs) i = omega arith

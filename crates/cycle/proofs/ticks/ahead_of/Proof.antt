@@ -1,6 +1,6 @@
 use native.Mathlib.Omega.{arith}
-use Rattle.cycle.proofs.StepLaws.{ahead-only, Way}
-use Rattle.cycle.proofs.StepLaws.Way.{straight, round}
+use Rattle.cycle.proofs.Ways.{ahead-only, Way}
+use Rattle.cycle.proofs.Ways.Way.{straight, round}
 use borrow.Author.Needs.{needs}
 use Rattle.cycle.proofs.ticks.ahead_of.Statement.{statement}
 use Rattle.cycle.proofs.ticks.ahead_of.Tie as tie

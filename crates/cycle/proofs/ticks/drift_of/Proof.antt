@@ -1,7 +1,7 @@
 use Rattle.cycle.proofs.SignedLaws.{kept}
 use Rattle.cycle.proofs.DriftLaws.{off-small}
 use mathlib.Core.Path.{_∙_, sym}
-use Rattle.cycle.proofs.StepLaws.{ahead-way}
+use Rattle.cycle.proofs.Ways.{ahead-way}
 use Rattle.cycle.proofs.Accepted.{reading-below}
 use lib.ListN.{getD}
 use Prim.Native.Nat.{_<_}

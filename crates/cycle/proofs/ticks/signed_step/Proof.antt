@@ -2,7 +2,7 @@ use Rattle.cycle.proofs.DriftLaws.{step-is}
 use Rattle.cycle.proofs.SignedLaws.{kept}
 use mathlib.Core.Path.{_∙_, sym}
 use Rattle.cycle.proofs.DriftLaws.{off-small}
-use Rattle.cycle.proofs.StepLaws.{ahead-way}
+use Rattle.cycle.proofs.Ways.{ahead-way}
 use native.Mathlib.Omega.{arith}
 use borrow.Author.Needs.{needs}
 use Rattle.cycle.proofs.ticks.signed_step.Statement.{statement}

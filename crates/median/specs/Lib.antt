@@ -1,0 +1,4 @@
+pub mod Sum
+pub mod Closest
+pub mod Choice
+pub mod Examples

@@ -1,0 +1,19 @@
+-- Document 01, "The chosen phase": the sum at a tick, or at any point of the cycle.
+use Prim.Native.Nat.{ℕ, _+_, _*_, _<_}
+use mathlib.Core.List.{List, [], _∷_}
+use Rattle.lists.specs.Members.{Each}
+use Rattle.cycle.specs.Distance.{distance}
+
+-- the total of the distances from a point to the readings, repeats counted (document 000, equations 1 and 12)
+unfoldable pub sumAt : ℕ → ℕ → List ℕ → ℕ
+sumAt c p [] = 0
+sumAt c p (z ∷ zs) = distance c p z + sumAt c p zs
+
+-- the readings as places of the grid of n parts to the tick: tick z is place n z, and the cycle has n c places
+unfoldable pub onGrid : ℕ → List ℕ → List ℕ
+onGrid n [] = []
+onGrid n (z ∷ zs) = n * z ∷ onGrid n zs
+
+-- each reading is a tick of the cycle
+abbrev pub Ticks : ℕ → List ℕ → Type 0
+Ticks c = Each (λ z. z < c)
