@@ -1,6 +1,6 @@
 -- What it says of the arguments that the tests of a call are clear. Assumes nothing.
 use Prim.Native.Nat.{ℕ, _≤_, _<_}
-use mathlib.Core.Path.{_≡_, sym}
+use mathlib.Core.Path.{_≡_}
 use mathlib.Core.List.{List}
 use native.Mathlib.Omega.{arith}
 use borrow.Author.Tests.{ltb-true, ltb-false, eqb-false, not-false}
@@ -10,7 +10,7 @@ use Rattle.lists.proofs.First.{before-first}
 use Rattle.refusal.specs.Limits.{longestCycle, mostColumns}
 use Rattle.refusal.specs.Outcome.{Clear}
 use Rattle.cycle.specs.Distance.{isReading}
-use Rattle.cycle.specs.Calls.{cycleRules, pairRules, rowRules}
+use Rattle.cycle.specs.Calls.{pairRules, rowRules}
 
 pub record Pair (c a b : ℕ) : Type 0 where
   pub cycle-some : 0 < c

@@ -8,16 +8,16 @@ use lib.ListN.{length}
 use Rattle.lists.specs.First.{firstBad}
 use Rattle.refusal.specs.Limits.{longestCycle, mostColumns}
 use Rattle.refusal.specs.Outcome.{Outcome, Rule, rule, firstDue, refusal}
-use Rattle.refusal.specs.Outcome.Outcome.{accepted, refused}
+use Rattle.refusal.specs.Outcome.Outcome.{accepted}
 use Rattle.cycle.specs.Distance.{distance, isTick, isReading}
 use Rattle.cycle.specs.Step.{step, drift, inSlot}
 use Rattle.cycle.specs.declared.DistanceAnswer.{DistanceAnswer}
-use Rattle.cycle.specs.declared.DistanceAnswer.the-variants as distances
 use Rattle.cycle.specs.declared.StepAnswer.{StepAnswer}
-use Rattle.cycle.specs.declared.StepAnswer.the-variants as steps
 use Rattle.cycle.specs.declared.SlotAnswer.{SlotAnswer}
-use Rattle.cycle.specs.declared.SlotAnswer.the-variants as slots
 use Rattle.cycle.specs.declared.DriftAnswer.{DriftAnswer}
+use Rattle.cycle.specs.declared.DistanceAnswer.the-variants as distances
+use Rattle.cycle.specs.declared.StepAnswer.the-variants as steps
+use Rattle.cycle.specs.declared.SlotAnswer.the-variants as slots
 use Rattle.cycle.specs.declared.DriftAnswer.the-variants as drifts
 
 -- 1: the cycle is 0, or above the call's limit

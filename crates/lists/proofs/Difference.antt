@@ -1,7 +1,7 @@
 -- Laws of differences held modulo 2 ^ 32: a difference that is adjusted stays one, and a sum with its difference added is exact again.
 -- Assumes nothing.
-use Prim.Native.Nat.{ℕ, _+_, _-_, _*_, _/_, _%_, _^_, _<_}
-use mathlib.Core.Path.{_≡_, refl, ap, sym, _∙_}
+use Prim.Native.Nat.{ℕ, _+_, _*_, _/_, _%_, _^_, _<_}
+use mathlib.Core.Path.{_≡_, ap, _∙_}
 use native.Mathlib.Omega.{arith}
 use Rattle.lists.specs.Difference.{difference, adjusted}
 

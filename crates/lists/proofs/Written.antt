@@ -2,13 +2,13 @@
 -- Assumes nothing.
 use Prim.Native.Nat.{ℕ, suc, _+_, _-_, _≤_, _<_}
 use mathlib.Core.Path.{_≡_, refl, ap, sym, _∙_}
-use mathlib.Core.List.{List, [], _∷_, _++_, append-assoc, append-nil}
+use mathlib.Core.List.{List, _++_, append-assoc, append-nil}
 use native.Mathlib.Omega.{arith}
 use native.Mathlib.Nat.{sub-self, sub-zero, le-of-lt}
 use native.Mathlib.Numerals.{add-one}
+use borrow.Rule.Slice.PartMut.{putMid}
 use lib.ListN.{length, take, drop, getD, set, take-append-drop, List·getD-append, length-append, length-take, length-drop, length-set}
 use lib.Seq.{take-at, drop-at, drop-drop, drop-cons, drop-length, set-at, length-take-le, getD-drop, getD-take, getD-append-add}
-use borrow.Rule.Slice.PartMut.{putMid}
 use Rattle.lists.specs.Tabulate.{tabulate, written}
 use Rattle.lists.proofs.Tabulate.{length-tabulate, getD-tabulate, tabulate-append}
 

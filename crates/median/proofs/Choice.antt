@@ -1,13 +1,12 @@
 -- The choice among candidates: the paper's three sentences hold of it, and of no other candidate. Assumes nothing.
 use Prim.Native.Nat.{ℕ, suc, _+_, _*_, _%_, _≤_, _<_}
-use mathlib.Core.Path.{_≡_, refl, ap, sym, _∙_}
-use mathlib.Core.List.{List, [], _∷_}
+use mathlib.Core.Path.{_≡_, ap, sym, _∙_}
+use mathlib.Core.List.{List}
 use native.Mathlib.Omega.{arith}
 use native.Mathlib.Decide.{decLe, ℕ-discrete}
 use native.Mathlib.Nat.{mul-le-mul-right, le-antisymm}
 use lib.ListN.{length}
 use Rattle.lists.specs.Members.{In}
-use Rattle.lists.specs.Tabulate.{tabulate}
 use Rattle.lists.specs.Least.{leastOf}
 use Rattle.lists.proofs.Members.{each-in}
 use Rattle.lists.proofs.Tabulate.{length-tabulate, in-range, each-tabulate}
@@ -16,7 +15,7 @@ use Rattle.cycle.specs.Distance.{distance}
 use Rattle.median.specs.Sum.{sumAt, Ticks}
 use Rattle.median.specs.Closest.{Least}
 use Rattle.median.specs.Choice.{rank, key, choose, candidates, chosen, Chosen}
-use Rattle.median.proofs.Rank.{rank-ahead, rank-behind, rank-only, rank-small, rank-most, rank-distance}
+use Rattle.median.proofs.Rank.{rank-behind, rank-only, rank-small, rank-most, rank-distance}
 
 -- keys compare sums first
 key-sums : (t u r s m : ℕ) → s < m → t * m + r ≤ u * m + s → t ≤ u

@@ -1,7 +1,7 @@
 -- Between readings a sum of distances is concave: where k is no reading, the sums at its two neighbours make at most twice its own.
 -- On an even cycle with an odd number of readings neighbours differ. Assumes nothing.
 use Prim.Native.Nat.{ℕ, zero, suc, _+_, _-_, _*_, _%_, _≤_, _<_, min}
-use mathlib.Core.Path.{_≡_, refl, ap, sym, _∙_}
+use mathlib.Core.Path.{_≡_, _∙_}
 use mathlib.Core.Logic.{inl, inr}
 use mathlib.Core.List.{List, [], _∷_}
 use native.Mathlib.Omega.{arith}

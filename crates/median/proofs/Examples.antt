@@ -1,7 +1,6 @@
 -- P1 to P12 hold of the definitions: one test is computed over the list, and one law turns it into what each example says.
 -- Assumes nothing.
-use Prim.Native.Nat.{ℕ}
-use mathlib.Core.Path.{_≡_, refl, ap}
+use mathlib.Core.Path.{_≡_, ap}
 use mathlib.Core.Bool.{Bool, true, false, _&&_}
 use mathlib.Core.List.{List, [], _∷_}
 use lib.Dec.{T, eqb, eqb→eq}
@@ -12,7 +11,7 @@ use Rattle.cycle.specs.Distance.{distance}
 use Rattle.cycle.specs.Step.{ahead, isForward, stepOf, step}
 use Rattle.median.specs.Sum.{sumAt}
 use Rattle.median.specs.Choice.{rank, key, choose, chosen}
-use Rattle.median.specs.Examples.{SumOf, StepOf, Example, centre, Holds, examples}
+use Rattle.median.specs.Examples.{Example, centre, Holds, examples}
 use Rattle.median.specs.Examples.Example.{window, steps}
 
 both : (a b : Bool) → T (a && b) → T a × T b

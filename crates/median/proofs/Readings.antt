@@ -1,7 +1,7 @@
 -- Where the centre is itself a reading, the chosen phase is a reading, be the readings odd or even in number: so weighing only the
 -- readings chooses the same phase. And no point of the cycle is closer than the chosen phase. Assumes nothing.
-use Prim.Native.Nat.{ℕ, suc, _+_, _*_, _≤_, _<_, min}
-use mathlib.Core.Path.{_≡_, refl, ap, sym, subst, _∙_}
+use Prim.Native.Nat.{ℕ, _+_, _*_, _≤_, _<_}
+use mathlib.Core.Path.{_≡_, sym, subst}
 use mathlib.Core.List.{List}
 use native.Mathlib.Omega.{arith}
 use native.Mathlib.Decide.{decLe}

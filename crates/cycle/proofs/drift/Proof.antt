@@ -1,49 +1,47 @@
+-- `cycle::drift` meets its contract. Assumes nothing.
+use mathlib.Core.Path.{sym}
+use native.Mathlib.Omega.{arith}
+use borrow.Author.Needs.{needs}
 use Rattle.cycle.proofs.SignedLaws.{kept}
 use Rattle.cycle.proofs.Accepted.{row-clear}
 use Rattle.cycle.specs.Calls.{rowRules, driftCall}
+use Rattle.refusal.specs.Outcome.{Clear}
 use Rattle.refusal.proofs.Outcome.{passed-clear, clear-accepted, refused-alone}
-use mathlib.Core.Path.{sym, _∙_}
-use native.Mathlib.Omega.{arith}
-use borrow.Author.Needs.{needs}
 use Rattle.cycle.proofs.drift.Statement.{statement}
 use Rattle.cycle.proofs.drift.Tie as tie
-use Rattle.cycle.proofs.drift.Reads as reads
-use Rattle.cycle.proofs.drift.Lts as lts
-use Rattle.cycle.proofs.ticks.drift_of.Reads as drift-of-reads
-use Rattle.cycle.proofs.verdicts.row_verdict.Reads as row-verdict-reads
 
--- src/lib.rt:77:11
+-- the tests that passed
+clear : (c : tie.After-enum-told) → let a = c .before .before .before .before .args in Clear (rowRules (a .cycle) (a .row .now))
+clear c =
+    let a = c .before .before .before .before .args in
+    passed-clear (rowRules (a .cycle) (a .row .now)) (c .before .before .row-verdict .ensures) (c .enum-told .given .1)
+
 row-verdict-requires : tie.Need-row-verdict-requires
 row-verdict-requires c κs = search needs
 
--- src/lib.rt:78:26
 enum-known-f : tie.Need-enum-known-f
 enum-known-f c = search needs
 
--- src/lib.rt:79:47
 enum-told : tie.Need-enum-told
 enum-told c = search needs
 
--- src/lib.rt:79:47
 drift-of-requires : tie.Need-drift-of-requires
 drift-of-requires c κs =
     let a = c .before .before .before .before .args in
-    let k = passed-clear (rowRules (a .cycle) (a .row .now)) (c .before .before .row-verdict .ensures) (c .enum-told .given .1) in
+    let k = clear c in
     omega (arith, row-clear (a .cycle) (a .row .now) k)
 
--- src/lib.rt:74:1
 returns : tie.Need-returns
 unfolding driftCall
 returns c =
     let a = c .before .before .before .before .before .args in
     sym (refused-alone (rowRules (a .cycle) (a .row .now)) (c .before .before .before .row-verdict .ensures) _ (c .before .f .given .1))
 
--- src/lib.rt:74:1
 returns-2 : tie.Need-returns-2
 unfolding driftCall
 returns-2 c =
     let a = c .before .before .before .before .before .args in
-    let k = passed-clear (rowRules (a .cycle) (a .row .now)) (c .before .before .before .row-verdict .ensures) (c .before .enum-told .given .1) in
+    let k = clear (c .before) in
     rw (kept (c .drift-of .ok), c .drift-of .ensures) (sym (clear-accepted _ (rowRules (a .cycle) (a .row .now)) k))
 
 pub drift-spec : {M : Type 1} → statement M

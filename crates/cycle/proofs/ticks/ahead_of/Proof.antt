@@ -1,25 +1,20 @@
+-- `cycle::ticks::ahead_of` meets its contract. Assumes nothing.
 use native.Mathlib.Omega.{arith}
-use Rattle.cycle.proofs.Ways.{ahead-only, Way}
-use Rattle.cycle.proofs.Ways.Way.{straight, round}
 use borrow.Author.Needs.{needs}
+use Rattle.cycle.proofs.Ways.{ahead-only}
+use Rattle.cycle.proofs.Ways.Way.{straight, round}
 use Rattle.cycle.proofs.ticks.ahead_of.Statement.{statement}
 use Rattle.cycle.proofs.ticks.ahead_of.Tie as tie
-use Rattle.cycle.proofs.ticks.ahead_of.Reads as reads
-use Rattle.cycle.proofs.ticks.ahead_of.Lts as lts
 
--- src/ticks.rt:26:41
 sub-result : tie.Need-sub-result
 sub-result c = search needs
 
--- src/ticks.rt:26:32
 sub-result-2 : tie.Need-sub-result-2
 sub-result-2 c = search needs
 
--- src/ticks.rt:22:1
 returns : tie.Need-returns
 returns c = ahead-only (omega arith) (omega arith) (omega arith) (straight (omega arith))
 
--- src/ticks.rt:22:1
 returns-2 : tie.Need-returns-2
 returns-2 c = ahead-only (omega arith) (omega arith) (omega arith) (round (omega arith))
 

@@ -1,24 +1,15 @@
-use Rattle.cycle.proofs.SignedLaws.{kept}
-use Rattle.cycle.proofs.DriftLaws.{off-small}
+-- `cycle::ticks::drift_of` meets its contract. Assumes nothing.
+use Prim.Native.Nat.{_<_, _+_, _-_, _≤_}
 use mathlib.Core.Path.{_∙_, sym}
+use native.Mathlib.Omega.{arith}
+use borrow.Author.Needs.{needs}
+use lib.ListN.{getD, length}
+use Rattle.cycle.proofs.SignedLaws.{kept}
+use Rattle.cycle.proofs.DriftLaws.{off-small, travelled-none, travelled-more, travelled-all, Travelled}
 use Rattle.cycle.proofs.Ways.{ahead-way}
 use Rattle.cycle.proofs.Accepted.{reading-below}
-use lib.ListN.{getD}
-use Prim.Native.Nat.{_<_}
-use Rattle.cycle.proofs.DriftLaws.{travelled-none, travelled-more, travelled-all}
-use Rattle.cycle.proofs.DriftLaws.{Travelled}
-use lib.ListN.{length, drop}
-use native.Mathlib.Omega.{arith}
-use mathlib.Core.Path.{_≡_}
-use Prim.Native.Nat.{_+_, _-_, _≤_}
-use borrow.Author.Needs.{needs}
 use Rattle.cycle.proofs.ticks.drift_of.Statement.{statement}
 use Rattle.cycle.proofs.ticks.drift_of.Tie as tie
-use Rattle.cycle.proofs.ticks.drift_of.Reads as reads
-use Rattle.cycle.proofs.ticks.drift_of.Lts as lts
-use Rattle.cycle.proofs.ticks.ahead_of.Reads as ahead-of-reads
-use Rattle.cycle.proofs.ticks.signed.Reads as signed-reads
-use Rattle.cycle.proofs.ticks.turn_back.Reads as turn-back-reads
 
 abbrev Inv-loop : tie.InvT-loop
 Inv-loop cycle row up₀ back₀ i₀ up back i = (i ≤ length row) × Travelled cycle row up back i
@@ -40,80 +31,62 @@ less c =
     let t = ticks (c .before .before .before) in
     omega (arith, ahead-way _ _ _ (t .0) (t .1) .less, c .ahead-of .ensures)
 
--- src/ticks.rt:63:5
 loop-holds : tie.Need-loop-holds Inv-loop μ-loop
 loop-holds c = (search needs, travelled-none)
 
--- src/ticks.rt:63:11
 add-loop : tie.Need-add-loop Inv-loop μ-loop
 add-loop c = search needs
 
--- src/ticks.rt:64:33
 mul-ahead-of : tie.Need-mul-ahead-of Inv-loop μ-loop
 mul-ahead-of c = search needs
 
--- src/ticks.rt:64:33
 shared-slice-read-ahead-of : tie.Need-shared-slice-read-ahead-of Inv-loop μ-loop
 shared-slice-read-ahead-of c = search needs
 
--- src/ticks.rt:64:33
 cast-ahead-of : tie.Need-cast-ahead-of Inv-loop μ-loop
 cast-ahead-of c = omega (arith, c .shared-slice-known2 .given (c .before .before .loop .i))
 
--- src/ticks.rt:64:52
 add-ahead-of : tie.Need-add-ahead-of Inv-loop μ-loop
 add-ahead-of c = search needs
 
--- src/ticks.rt:64:48
 mul-ahead-of-2 : tie.Need-mul-ahead-of-2 Inv-loop μ-loop
 mul-ahead-of-2 c = search needs
 
--- src/ticks.rt:64:48
 shared-slice-read-ahead-of-2 : tie.Need-shared-slice-read-ahead-of-2 Inv-loop μ-loop
 shared-slice-read-ahead-of-2 c = search needs
 
--- src/ticks.rt:64:48
 cast-ahead-of-2 : tie.Need-cast-ahead-of-2 Inv-loop μ-loop
 cast-ahead-of-2 c = omega (arith, c .shared-slice-known3 .given (c .before .before .before .loop .i + 1))
 
--- src/ticks.rt:64:13
 ahead-of-requires : tie.Need-ahead-of-requires Inv-loop μ-loop
 ahead-of-requires c κs = ticks (c .before .before)
 
--- src/ticks.rt:65:9
 add-up : tie.Need-add-up Inv-loop μ-loop
 add-up c = omega (arith, less c, c .before .before .before .before .loop .inv .1 .up-small)
 
--- src/ticks.rt:66:17
 turn-back-requires : tie.Need-turn-back-requires Inv-loop μ-loop
 turn-back-requires c κs = omega (arith, less c)
 
--- src/ticks.rt:66:9
 add-back : tie.Need-add-back Inv-loop μ-loop
 add-back c =
     let l = c .before .before .before .before .before .loop in
     let a = c .before .before .before .before .before .before .before .args in
     omega (arith, l .inv .1 .down-small, off-small (a .cycle) (c .before .ahead-of .result), c .turn-back .ensures)
 
--- src/ticks.rt:67:9
 add-i : tie.Need-add-i Inv-loop μ-loop
 add-i c = search needs
 
--- src/ticks.rt:63:5
 loop-less : tie.Need-loop-less Inv-loop μ-loop
 loop-less c = search needs
 
--- src/ticks.rt:63:5
 loop-again : tie.Need-loop-again Inv-loop μ-loop
 loop-again c =
     let l = c .before .before .before .before .before .loop in
     (omega arith, travelled-more (l .inv .1) (omega arith) (omega arith) (less (c .before)) (c .before .ahead-of .ensures) (c .turn-back .ensures))
 
--- src/ticks.rt:69:5
 signed-requires : tie.Need-signed-requires Inv-loop μ-loop
 signed-requires c κs = omega (arith, c .before .loop .inv .1)
 
--- src/ticks.rt:56:1
 returns : tie.Need-returns Inv-loop μ-loop
 returns c = kept (c .signed .ok) ∙ c .signed .ensures ∙ sym (travelled-all (c .before .before .loop .inv .1) (omega arith))
 

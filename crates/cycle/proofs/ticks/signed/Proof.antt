@@ -1,24 +1,19 @@
+-- `cycle::ticks::signed` meets its contract. Assumes nothing.
 use native.Mathlib.Omega.{arith}
-use Rattle.cycle.proofs.SignedLaws.{sub-fits, sub-is}
 use borrow.Author.Needs.{needs}
+use Rattle.cycle.proofs.SignedLaws.{sub-fits, sub-is}
 use Rattle.cycle.proofs.ticks.signed.Statement.{statement}
 use Rattle.cycle.proofs.ticks.signed.Tie as tie
-use Rattle.cycle.proofs.ticks.signed.Reads as reads
-use Rattle.cycle.proofs.ticks.signed.Lts as lts
 
--- src/ticks.rt:42:5
 cast-result : tie.Need-cast-result
 cast-result c = search needs
 
--- src/ticks.rt:42:17
 cast-result-2 : tie.Need-cast-result-2
 cast-result-2 c = search needs
 
--- src/ticks.rt:42:5
 sub-result : tie.Need-sub-result
 sub-result c = sub-fits (c .args .up) (c .args .back) (omega arith) (omega arith)
 
--- src/ticks.rt:38:1
 returns : tie.Need-returns
 returns c = sub-is (c .args .up) (c .args .back) (omega arith) (omega arith)
 

@@ -1,22 +1,17 @@
+-- `cycle::verdicts::cycle_verdict` meets its contract. Assumes nothing.
 use Rattle.refusal.specs.Outcome.{firstDue}
 use Rattle.refusal.proofs.Outcome.{tests}
-use borrow.Author.Needs.{needs}
 use Rattle.cycle.proofs.verdicts.cycle_verdict.Statement.{statement}
 use Rattle.cycle.proofs.verdicts.cycle_verdict.Tie as tie
-use Rattle.cycle.proofs.verdicts.cycle_verdict.Reads as reads
-use Rattle.cycle.proofs.verdicts.cycle_verdict.Lts as lts
 
--- src/verdicts.rt:17:9
 returns : tie.Need-returns
 unfolding firstDue
 returns c = search tests
 
--- src/verdicts.rt:20:9
 returns-2 : tie.Need-returns-2
 unfolding firstDue
 returns-2 c = search tests
 
--- src/verdicts.rt:13:1
 returns-3 : tie.Need-returns-3
 unfolding firstDue
 returns-3 c = search tests

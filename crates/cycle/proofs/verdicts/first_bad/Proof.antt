@@ -1,16 +1,15 @@
+-- `cycle::verdicts::first_bad` meets its contract. Assumes nothing.
+use Prim.Native.Nat.{_+_, _-_, _≤_}
+use mathlib.Core.Path.{_≡_}
+use native.Mathlib.Omega.{arith}
+use borrow.Author.Tests.{lt-ltb, le-ltb}
+use borrow.Author.Needs.{needs}
+use lib.ListN.{length, drop}
 use Rattle.cycle.specs.Distance.{isReading}
 use Rattle.lists.proofs.First.{first-here, first-later, first-none}
 use Rattle.lists.specs.First.{firstBad}
-use lib.ListN.{length, drop}
-use borrow.Author.Tests.{lt-ltb, le-ltb}
-use native.Mathlib.Omega.{arith}
-use mathlib.Core.Path.{_≡_}
-use Prim.Native.Nat.{_+_, _-_, _≤_}
-use borrow.Author.Needs.{needs}
 use Rattle.cycle.proofs.verdicts.first_bad.Statement.{statement}
 use Rattle.cycle.proofs.verdicts.first_bad.Tie as tie
-use Rattle.cycle.proofs.verdicts.first_bad.Reads as reads
-use Rattle.cycle.proofs.verdicts.first_bad.Lts as lts
 
 abbrev Inv-loop : tie.InvT-loop
 Inv-loop cycle readings i₀ i = (i ≤ length readings) × (firstBad (isReading cycle) readings ≡ i + firstBad (isReading cycle) (drop i readings))
@@ -18,45 +17,36 @@ Inv-loop cycle readings i₀ i = (i ≤ length readings) × (firstBad (isReading
 abbrev μ-loop : tie.MeasureT-loop
 μ-loop cycle readings i₀ i = length readings - i
 
--- src/verdicts.rt:41:5
 loop-holds : tie.Need-loop-holds Inv-loop μ-loop
 loop-holds c = search needs
 
--- src/verdicts.rt:42:21
 mul-if1 : tie.Need-mul-if1 Inv-loop μ-loop
 mul-if1 c = search needs
 
--- src/verdicts.rt:42:21
 shared-slice-read-if1 : tie.Need-shared-slice-read-if1 Inv-loop μ-loop
 shared-slice-read-if1 c = search needs
 
--- src/verdicts.rt:42:21
 cast-if1 : tie.Need-cast-if1 Inv-loop μ-loop
 cast-if1 c = omega (arith, c .shared-slice-known .given (c .before .before .loop .i))
 
--- src/verdicts.rt:43:13
 returns : tie.Need-returns Inv-loop μ-loop
 returns c =
     let a = c .before .before .before .before .args in
     let i = c .before .before .before .loop .i in
     omega (arith, first-here (isReading (a .cycle)) 0 (a .readings .now) i (omega arith) (le-ltb _ _ (c .if1 .taken)))
 
--- src/verdicts.rt:45:9
 add-i : tie.Need-add-i Inv-loop μ-loop
 add-i c = search needs
 
--- src/verdicts.rt:41:5
 loop-less : tie.Need-loop-less Inv-loop μ-loop
 loop-less c = search needs
 
--- src/verdicts.rt:41:5
 loop-again : tie.Need-loop-again Inv-loop μ-loop
 loop-again c =
     let a = c .before .before .before .before .args in
     let i = c .before .before .before .loop .i in
     omega (arith, first-later (isReading (a .cycle)) 0 (a .readings .now) i (omega arith) (lt-ltb _ _ (c .if1 .left)))
 
--- src/verdicts.rt:37:1
 returns-2 : tie.Need-returns-2 Inv-loop μ-loop
 returns-2 c =
     let a = c .before .before .args in

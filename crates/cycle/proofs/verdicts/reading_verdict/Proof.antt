@@ -1,22 +1,18 @@
+-- `cycle::verdicts::reading_verdict` meets its contract. Assumes nothing.
+use Prim.Native.Nat.{_≤_, _<_}
+use native.Mathlib.Omega.{arith}
+use borrow.Author.Needs.{needs}
+use lib.ListN.{length}
 use Rattle.cycle.specs.Distance.{isReading}
 use Rattle.lists.specs.First.{firstBad}
-use lib.ListN.{length}
-use native.Mathlib.Omega.{arith}
-use Prim.Native.Nat.{_≤_, _<_}
 use Rattle.refusal.proofs.Outcome.{tests}
 use Rattle.refusal.specs.Outcome.{firstDue}
-use borrow.Author.Needs.{needs}
 use Rattle.cycle.proofs.verdicts.reading_verdict.Statement.{statement}
 use Rattle.cycle.proofs.verdicts.reading_verdict.Tie as tie
-use Rattle.cycle.proofs.verdicts.reading_verdict.Reads as reads
-use Rattle.cycle.proofs.verdicts.reading_verdict.Lts as lts
-use Rattle.cycle.proofs.verdicts.first_bad.Reads as first-bad-reads
 
--- src/verdicts.rt:29:9
 first-bad-requires : tie.Need-first-bad-requires
 first-bad-requires c κs = search needs
 
--- src/verdicts.rt:31:9
 returns : tie.Need-returns
 unfolding firstDue
 returns c =
@@ -24,7 +20,6 @@ returns c =
     let h : firstBad (isReading (a .cycle)) (a .readings .now) < length (a .readings .now) = omega arith in
     search (tests, c .before .first-bad .ensures)
 
--- src/verdicts.rt:26:1
 returns-2 : tie.Need-returns-2
 unfolding firstDue
 returns-2 c =
