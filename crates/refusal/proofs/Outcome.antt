@@ -111,3 +111,6 @@ module _ (xs : List Rule) {r : Verdict} (said : verdict r ≡ firstDue xs tt) wh
         number = d .number;
         place = d .place;
       }
+
+  pub passed-on : {A : Type 0} (v : A) (ys : List Rule) → r ≡ Passed → firstDue (xs ++ ys) v ≡ firstDue ys v
+  passed-on v ys e = after-clear v xs ys (passed-clear e)

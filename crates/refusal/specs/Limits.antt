@@ -1,10 +1,24 @@
 -- The limits of document 01, named once in the definitions; src/limits.rt names them once in code.
 use Prim.Native.Nat.{ℕ}
 
--- ticks in a cycle: "C from 1 to 65,535"
+-- ticks in a cycle: "C from 1 to 65,535"; the level engine "takes C up to 4,096"
 abbrev pub longestCycle : ℕ
 longestCycle = 65535
+
+abbrev pub levelCycle : ℕ
+levelCycle = 4096
+
+-- rows (labels) of an image: "1 to 1,024"
+abbrev pub mostRows : ℕ
+mostRows = 1024
 
 -- columns (wakes) of an image, and readings in a row whose drift is asked: "1 to 8,192"
 abbrev pub mostColumns : ℕ
 mostColumns = 8192
+
+-- sides of a mask: "odd, 1 to 255"
+abbrev pub mostMaskRows : ℕ
+mostMaskRows = 255
+
+abbrev pub mostMaskColumns : ℕ
+mostMaskColumns = 255

@@ -1,0 +1,53 @@
+-- What it says of a shape that its tests are clear. Assumes nothing.
+use Prim.Native.Nat.{ℕ, _+_, _*_, _%_, _≤_, _<_}
+use mathlib.Core.Path.{_≡_}
+use native.Mathlib.Omega.{arith}
+use native.Mathlib.Nat.{mul-le-mul}
+use borrow.Author.Tests.{ltb-false, eqb-false}
+use Rattle.refusal.specs.Limits.{mostRows, mostColumns, mostMaskRows, mostMaskColumns}
+use Rattle.refusal.specs.Outcome.{Clear}
+use Rattle.shape.specs.declared.Shape.{Shape}
+use Rattle.shape.specs.Rules.{reach, shapeRules, area}
+
+pub record Accepted (limit : ℕ) (s : Shape) : Type 0 where
+  pub cycle-some : 0 < s .cycle
+  pub cycle-fits : s .cycle ≤ limit
+  pub rows-some : 0 < s .rows
+  pub rows-fit : s .rows ≤ mostRows
+  pub columns-some : 0 < s .columns
+  pub columns-fit : s .columns ≤ mostColumns
+  pub mask-rows-odd : s .«mask_rows» ≡ 2 * reach (s .«mask_rows») + 1
+  pub mask-rows-fit : s .«mask_rows» ≤ mostMaskRows
+  pub mask-columns-odd : s .«mask_columns» ≡ 2 * reach (s .«mask_columns») + 1
+  pub mask-columns-fit : s .«mask_columns» ≤ mostMaskColumns
+  pub rows-reach : reach (s .«mask_rows») ≤ s .rows
+  pub columns-reach : reach (s .«mask_columns») ≤ s .columns
+
+pub shape-clear : (limit : ℕ) (s : Shape) → Clear (shapeRules limit s) → Accepted limit s
+shape-clear limit s k =
+    let cycle = eqb-false (s .cycle) 0 (k .0) in
+    let sizes = k .1 .1 in
+    let rows = eqb-false (s .rows) 0 (sizes .0) in
+    let columns = eqb-false (s .columns) 0 (sizes .1 .1 .0) in
+    let mask = sizes .1 .1 .1 .1 in
+    let mask-rows : (s .«mask_rows» % 2 ≡ 0 → ⊥) = eqb-false _ 0 (mask .0) in
+    let mask-columns : (s .«mask_columns» % 2 ≡ 0 → ⊥) = eqb-false _ 0 (mask .1 .1 .0) in
+    let reflection = mask .1 .1 .1 .1 in
+    record {
+      cycle-some = omega arith;
+      cycle-fits = ltb-false limit (s .cycle) (k .1 .0);
+      rows-some = omega arith;
+      rows-fit = ltb-false mostRows (s .rows) (sizes .1 .0);
+      columns-some = omega arith;
+      columns-fit = ltb-false mostColumns (s .columns) (sizes .1 .1 .1 .0);
+      mask-rows-odd = omega arith;
+      mask-rows-fit = ltb-false mostMaskRows (s .«mask_rows») (mask .1 .0);
+      mask-columns-odd = omega arith;
+      mask-columns-fit = ltb-false mostMaskColumns (s .«mask_columns») (mask .1 .1 .1 .0);
+      rows-reach = ltb-false (s .rows) _ (reflection .0);
+      columns-reach = ltb-false (s .columns) _ (reflection .1 .0);
+    }
+
+-- the number of readings is small
+pub area-fits : {limit : ℕ} {s : Shape} → Accepted limit s → area s ≤ mostRows * mostColumns
+area-fits {limit} {s} a = mul-le-mul {n₁ = s .rows} {m₁ = s .columns} {n₂ = mostRows} {m₂ = mostColumns} (a .rows-fit) (a .columns-fit)

@@ -1,0 +1,51 @@
+-- Document 01, "Refused calls": the tests on sizes, masks, rows and buffers, in groups that calls put together.
+use Prim.Native.Nat.{ℕ, _*_, _/_, _%_}
+use mathlib.Core.Bool.{not}
+use mathlib.Core.List.{List, [], _∷_, _++_}
+use lib.Dec.{ltb, eqb}
+use Rattle.refusal.specs.Limits.{mostRows, mostColumns, mostMaskRows, mostMaskColumns}
+use Rattle.refusal.specs.Outcome.{Rule, rule}
+use Rattle.cycle.specs.Calls.{cycleRules}
+use Rattle.shape.specs.declared.Shape.{Shape}
+
+-- the paper's r of R = 2r + 1, and t of T: how far a mask reaches from its centre
+abbrev pub reach : ℕ → ℕ
+reach side = side / 2
+
+-- 2: M or N outside its range
+abbrev pub sizeRules : ℕ → ℕ → List Rule
+sizeRules m n = rule (eqb m 0) 2 0 ∷ rule (ltb mostRows m) 2 0 ∷ rule (eqb n 0) 2 0 ∷ rule (ltb mostColumns n) 2 0 ∷ []
+
+-- 3: R or T even, which 0 is, or too long
+abbrev pub maskRules : ℕ → ℕ → List Rule
+maskRules r t = rule (eqb (r % 2) 0) 3 0 ∷ rule (ltb mostMaskRows r) 3 0 ∷ rule (eqb (t % 2) 0) 3 0 ∷ rule (ltb mostMaskColumns t) 3 0 ∷ []
+
+-- 4: one reflection is not enough
+abbrev pub reflectionRules : ℕ → ℕ → ℕ → ℕ → List Rule
+reflectionRules m n r t = rule (ltb m (reach r)) 4 0 ∷ rule (ltb n (reach t)) 4 0 ∷ []
+
+-- 1 to 4, for a call that takes cycles up to a limit
+abbrev pub shapeRules : ℕ → Shape → List Rule
+shapeRules limit s =
+    cycleRules limit (s .cycle)
+    ++ (sizeRules (s .rows) (s .columns)
+    ++ (maskRules (s .«mask_rows») (s .«mask_columns»)
+    ++ reflectionRules (s .rows) (s .columns) (s .«mask_rows») (s .«mask_columns»)))
+
+-- the number of readings of an image
+abbrev pub area : Shape → ℕ
+area s = s .rows * s .columns
+
+-- 5: the range of rows
+abbrev pub rowsRules : ℕ → ℕ → ℕ → List Rule
+rowsRules m first end = rule (ltb end first) 5 0 ∷ rule (ltb m end) 5 0 ∷ []
+
+-- 6: the length of the input; 7: an output, readings or byte buffer; 8: the work memory
+abbrev pub inputRule : ℕ → ℕ → Rule
+inputRule due length = rule (not (eqb length due)) 6 0
+
+abbrev pub bufferRule : ℕ → ℕ → Rule
+bufferRule need length = rule (ltb length need) 7 0
+
+abbrev pub workRule : ℕ → ℕ → Rule
+workRule need length = rule (ltb length need) 8 0
