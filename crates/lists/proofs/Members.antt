@@ -32,3 +32,12 @@ in-dec y (x ∷ xs) = go (ℕ-discrete y x) (in-dec y xs)
 pub in-some : {A : Type 0} (y : A) (xs : List A) → In y xs → 0 < length xs
 in-some y [] i = absurd i
 in-some y (x ∷ xs) i = omega arith
+
+pub in-left : {A : Type 0} (y : A) (xs ys : List A) → In y xs → In y (xs ++ ys)
+in-left y [] ys i = absurd i
+in-left y (x ∷ xs) ys (inl e) = inl e
+in-left y (x ∷ xs) ys (inr i) = inr (in-left y xs ys i)
+
+pub in-right : {A : Type 0} (y : A) (xs ys : List A) → In y ys → In y (xs ++ ys)
+in-right y [] ys i = i
+in-right y (x ∷ xs) ys i = inr (in-right y xs ys i)

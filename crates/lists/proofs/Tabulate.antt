@@ -38,11 +38,15 @@ pub each-tabulate : {A : Type 0} (P : A → Type 0) (f : ℕ → A) (a n : ℕ) 
 each-tabulate P f a zero h = tt
 each-tabulate P f a (suc n) h = (h a (omega arith) (omega arith), each-tabulate P f (suc a) n (λ k g i. h k (omega arith) (omega arith)))
 
+-- each value is an element
+pub in-tabulate : {A : Type 0} (f : ℕ → A) (a n k : ℕ) → a ≤ k → k < a + n → In (f k) (tabulate f a n)
+in-tabulate f a zero k h g = absurd (omega arith)
+in-tabulate f a (suc n) k h g = go (ℕ-discrete k a) (in-tabulate f (suc a) n k)
+  where
+    go : Dec (k ≡ a) → (suc a ≤ k → k < suc a + n → In (f k) (tabulate f (suc a) n)) → In (f k) (tabulate f a (suc n))
+    go (yes e) r = inl (ap f e)
+    go (no e) r = inr (r (omega arith) (omega arith))
+
 -- the numbers from a on: k is one of them if it lies between
 pub in-range : (a n k : ℕ) → a ≤ k → k < a + n → In k (tabulate (λ i. i) a n)
-in-range a zero k h g = absurd (omega arith)
-in-range a (suc n) k h g = go (ℕ-discrete k a) (in-range (suc a) n k)
-  where
-    go : Dec (k ≡ a) → (suc a ≤ k → k < suc a + n → In k (tabulate (λ i. i) (suc a) n)) → In k (tabulate (λ i. i) a (suc n))
-    go (yes e) r = inl e
-    go (no e) r = inr (r (omega arith) (omega arith))
+in-range a n k h g = in-tabulate (λ i. i) a n k h g

@@ -1,0 +1,4 @@
+pub mod Mirror
+pub mod Sums
+pub mod Window
+pub mod Phase

@@ -1,0 +1,4 @@
+pub mod Mirror
+pub mod Window
+pub mod Phase
+pub mod Ready
