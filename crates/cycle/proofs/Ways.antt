@@ -76,10 +76,10 @@ pub record Ahead (c a b e : ℕ) : Type 0 where
   pub less : e < c
   pub way : Way c a b e
 
-mod-low : (c x y : ℕ) → x < c → y ≡ x → y % c ≡ x
+pub mod-low : (c x y : ℕ) → x < c → y ≡ x → y % c ≡ x
 mod-low c x y h e = ap (λ (z : ℕ). z % c) e ∙ mod-eq-of-lt h
 
-mod-high : (c x y : ℕ) → x < c → y ≡ x + c → y % c ≡ x
+pub mod-high : (c x y : ℕ) → x < c → y ≡ x + c → y % c ≡ x
 mod-high c x y h e = ap (λ (z : ℕ). z % c) e ∙ add-mod-right x c ∙ mod-eq-of-lt h
 
 pub ahead-way : (c a b : ℕ) → a < c → b < c → Ahead c a b (ahead c a b)

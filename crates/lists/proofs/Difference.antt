@@ -71,3 +71,17 @@ difference-moved a b a′ b′ in₁ out₁ in₂ out₂ e d =
 pub exact : (f g a b : ℕ) → g + b ≡ f + a → g < 2 ^ 32 → (f + difference a b) % 2 ^ 32 ≡ g
 unfolding difference
 exact f g a b e h = omega arith
+
+-- what a wrapping addition alone returns
+pub adjusted-added : (d x r : ℕ) → r ≡ (d + x) % 2 ^ 32 → r ≡ adjusted d x 0
+unfolding adjusted
+adjusted-added d x r e = omega arith
+
+-- a difference that is a natural number below 2 ^ 32 is that number
+pub difference-is : (a b g : ℕ) → g + b ≡ a → g < 2 ^ 32 → difference a b ≡ g
+unfolding difference
+difference-is a b g e h = omega arith
+
+-- what comes in and goes out at once changes nothing
+pub adjusted-same : (a b x : ℕ) → adjusted (difference a b) x x ≡ difference a b
+adjusted-same a b x = difference-adjusted a b x x ∙ difference-both a b x

@@ -4,11 +4,12 @@ use Prim.Native.Nat.{ℕ, suc, _+_, _-_, _≤_, _<_}
 use mathlib.Core.Path.{_≡_, refl, ap, sym, _∙_}
 use mathlib.Core.List.{List, _++_, append-assoc, append-nil}
 use native.Mathlib.Omega.{arith}
+use native.Mathlib.Decide.{decLt}
 use native.Mathlib.Nat.{sub-self, sub-zero, le-of-lt}
 use native.Mathlib.Numerals.{add-one}
 use borrow.Rule.Slice.PartMut.{putMid}
 use lib.ListN.{length, take, drop, getD, set, take-append-drop, List·getD-append, length-append, length-take, length-drop, length-set}
-use lib.Seq.{take-at, drop-at, drop-drop, drop-cons, drop-length, set-at, length-take-le, getD-drop, getD-take, getD-append-add}
+use lib.Seq.{take-at, drop-at, drop-drop, drop-cons, drop-length, set-at, length-take-le, getD-drop, getD-take, getD-append-add, ext-getD}
 use Rattle.lists.specs.Tabulate.{tabulate, written}
 use Rattle.lists.proofs.Tabulate.{length-tabulate, getD-tabulate, tabulate-append}
 
@@ -86,6 +87,29 @@ module _ {A : Type 0} (f : ℕ → A) (a b : ℕ) (l : List A) (order : a ≤ b)
       let d : b + (b + n - b) ≡ b + n = omega arith in
       rw (split, take-at front (drop b l) b length-front, drop-at front (drop b l) b length-front, drop-drop, d, e) (longer n (drop (b + n) l))
 
+-- places set one after the other
+pub written-join : {A : Type 0} (d : A) (f : ℕ → A) (a b e : ℕ) (l : List A) → a ≤ b → b ≤ e → e ≤ length l → written f b e (written f a b l) ≡ written f a e l
+written-join {A} d f a b e l h g room =
+    ext-getD d _ _ (length-written f b e (written f a b l) g m-room ∙ inner ∙ sym (length-written f a e l (omega arith) room)) (λ k i. at k (decLt k a) (decLt k b) (decLt k e))
+  where
+    inner : length (written f a b l) ≡ length l
+    inner = length-written f a b l h (omega arith)
+
+    m-room : e ≤ length (written f a b l)
+    m-room = omega (arith, inner)
+
+    at : (k : ℕ) → Dec (k < a) → Dec (k < b) → Dec (k < e) → getD (written f b e (written f a b l)) k d ≡ getD (written f a e l) k d
+    at k (yes p) q r =
+        written-before f b e (written f a b l) g m-room d k (omega arith) ∙ written-before f a b l h (omega arith) d k p ∙ sym (written-before f a e l (omega arith) room d k p)
+    at k (no p) (yes q) r =
+        written-before f b e (written f a b l) g m-room d k q ∙ written-inside f a b l h (omega arith) d k (omega arith) q
+        ∙ sym (written-inside f a e l (omega arith) room d k (omega arith) (omega arith))
+    at k (no p) (no q) (yes r) =
+        written-inside f b e (written f a b l) g m-room d k (omega arith) r ∙ sym (written-inside f a e l (omega arith) room d k (omega arith) r)
+    at k (no p) (no q) (no r) =
+        written-after f b e (written f a b l) g m-room d k (omega arith) ∙ written-after f a b l h (omega arith) d k (omega arith)
+        ∙ sym (written-after f a e l (omega arith) room d k (omega arith))
+
 -- A loop has set the places from a up to b of l₀, and l is what it has so far.
 pub record Run {A : Type 0} (f : ℕ → A) (a : ℕ) (l₀ l : List A) (b : ℕ) : Type 0 where
   pub is : l ≡ written f a b l₀
@@ -112,3 +136,7 @@ module _ {A : Type 0} {f : ℕ → A} {a : ℕ} {l₀ l : List A} {b : ℕ} (r :
     where
       back : putMid b (b + n - b) l part ≡ written f a (b + n) l₀
       back = rw (r .is) (written-part f a b l₀ (r .order) (omega arith) n part h e)
+
+-- a part of n elements that is lent
+pub part-length : {A : Type 0} (b n : ℕ) (l : List A) → b + n ≤ length l → length (take (b + n - b) (drop b l)) ≡ n
+part-length b n l h = simp (length-take, length-drop) (omega arith)

@@ -91,19 +91,37 @@ chosen-only {c} {a} {sum} {qs} {p} {q} x y = go (ℕ-discrete p q)
         ∙ sym (y .ahead p (x .candidate) s d ne)
 
 -- The chosen phase, over all ticks of the cycle.
+pub candidate : (c q : ℕ) → q < c → In q (candidates c)
+candidate c q h = in-range 0 c q (omega arith) (omega arith)
+
+pub candidates-ticks : (c : ℕ) → Ticks c (candidates c)
+candidates-ticks c = each-tabulate (λ q. q < c) (λ q. q) 0 c (λ k h g. omega arith)
+
+pub candidate-below : (c q : ℕ) → In q (candidates c) → q < c
+candidate-below c q i = each-in (λ q. q < c) q (candidates c) (candidates-ticks c) i
+
 module _ (c a : ℕ) (zs : List ℕ) (ha : a < c) where
-  pub candidate : (q : ℕ) → q < c → In q (candidates c)
-  candidate q h = in-range 0 c q (omega arith) (omega arith)
-
-  pub candidates-ticks : Ticks c (candidates c)
-  candidates-ticks = each-tabulate (λ q. q < c) (λ q. q) 0 c (λ k h g. omega arith)
-
   pub is-chosen : Chosen c a (λ q. sumAt c q zs) (candidates c) (chosen c a zs)
   unfolding chosen
-  is-chosen = choose-chosen c a (λ q. sumAt c q zs) ha (candidates c) candidates-ticks (omega (arith, length-tabulate (λ q. q) 0 c))
+  is-chosen = choose-chosen c a (λ q. sumAt c q zs) ha (candidates c) (candidates-ticks c) (omega (arith, length-tabulate (λ q. q) 0 c))
 
   pub chosen-below : chosen c a zs < c
-  chosen-below = each-in (λ q. q < c) (chosen c a zs) (candidates c) candidates-ticks (is-chosen .candidate)
+  chosen-below = candidate-below c (chosen c a zs) (is-chosen .candidate)
 
   pub chosen-least : Least c zs (chosen c a zs)
-  chosen-least q h = is-chosen .least q (candidate q h)
+  chosen-least q h = is-chosen .least q (candidate c q h)
+
+  -- who chooses by numbers that are the sums chooses the phase
+  pub chosen-by-sums : (f : ℕ → ℕ) (p : ℕ) → Chosen c a f (candidates c) p → ((q : ℕ) → q < c → f q ≡ sumAt c q zs) → p ≡ chosen c a zs
+  chosen-by-sums f p x e = chosen-only (same x) is-chosen
+    where
+      at : (q : ℕ) → In q (candidates c) → f q ≡ sumAt c q zs
+      at q i = e q (candidate-below c q i)
+
+      same : Chosen c a f (candidates c) p → Chosen c a (λ q. sumAt c q zs) (candidates c) p
+      same x = record {
+        candidate = x .candidate;
+        least = λ q i. omega (arith, x .least q i, at q i, at p (x .candidate));
+        nearest = λ q i s. x .nearest q i (at q i ∙ s ∙ sym (at p (x .candidate)));
+        ahead = λ q i s. x .ahead q i (at q i ∙ s ∙ sym (at p (x .candidate)));
+      }

@@ -21,7 +21,7 @@ unfolding rank
 rank-behind c a q e = rw (ne-eqb _ _ e)
 
 -- a tick lies at its distance from the centre, ahead or behind
-reached : (c a q : ℕ) → a < c → q < c → Way c a q (distance c a q) ⊎ Way c q a (distance c a q)
+pub reached : (c a q : ℕ) → a < c → q < c → Way c a q (distance c a q) ⊎ Way c q a (distance c a q)
 reached c a q h g = go (decLe (ahead c a q) (c - ahead c a q))
   where
     r : Ahead c a q (ahead c a q)

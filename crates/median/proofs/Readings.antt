@@ -64,7 +64,7 @@ module _ (c a : ℕ) (zs : List ℕ) (ticks : Ticks c zs) (centre : In a zs) whe
       go (no i) =
           let p = nearer (chosen c a zs) h low i in
           let same : sumAt c (p .0) zs ≡ sumAt c (chosen c a zs) zs = le-antisymm (p .1 (chosen c a zs) h) (low (p .0) (p .2)) in
-          absurd (omega (arith, p .3, is-chosen c a zs ha .nearest (p .0) (candidate c a zs ha (p .0) (p .2)) same))
+          absurd (omega (arith, p .3, is-chosen c a zs ha .nearest (p .0) (candidate c (p .0) (p .2)) same))
 
   -- weighing only the readings chooses the same phase
   pub choose-readings : choose c a (λ q. sumAt c q zs) zs ≡ chosen c a zs
@@ -79,7 +79,7 @@ module _ (c a : ℕ) (zs : List ℕ) (ticks : Ticks c zs) (centre : In a zs) whe
       }
         where
           wide : (q : ℕ) → In q zs → In q (candidates c)
-          wide q i = candidate c a zs ha q (below q i)
+          wide q i = candidate c q (below q i)
 
   -- no point of the cycle is closer than the chosen phase
   pub chosen-closest : NoCloser c zs (chosen c a zs)

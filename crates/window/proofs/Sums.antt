@@ -1,7 +1,7 @@
 -- How sums over windows follow from those of their neighbours: one column on, one row down. Assumes nothing.
 use Prim.Native.Nat.{ℕ, zero, suc, _+_, _*_, _^_, _%_, _≤_, _<_}
 use mathlib.Core.Path.{_≡_, ap, sym, _∙_}
-use mathlib.Core.List.{_++_}
+use mathlib.Core.List.{[], _++_}
 use native.Mathlib.Omega.{arith}
 use native.Mathlib.Nat.{add-zero, add-suc, suc-add}
 use native.Mathlib.Numerals.{add-one}
@@ -87,7 +87,7 @@ module _ (c q : ℕ) where
         ))
 
     -- the difference between the stretch that comes in below a block of k rows and the one that goes out above
-    pub change : ℕ → ℕ → ℕ → ℕ
+    unfoldable pub change : ℕ → ℕ → ℕ → ℕ
     change i j k = difference (sumAt c q (stretch y w (i + k) j)) (sumAt c q (stretch y w i j))
 
     -- The running sum: a row's sum with the difference added is the next row's, exactly.
@@ -103,3 +103,12 @@ module _ (c q : ℕ) where
         ≡ change i (j + 1) k
     unfolding change
     change-across i j k = difference-moved _ _ _ _ _ _ _ _ (across (i + k) j) (across i j)
+
+    -- a block with one row more
+    pub block-more : (i j k : ℕ) → sumAt c q (block y w i j (k + 1)) ≡ sumAt c q (block y w i j k) + sumAt c q (stretch y w (i + k) j)
+    unfolding block sumAt
+    block-more i j zero = rw add-zero (sum-append c q (stretch y w i j) [] ∙ omega arith)
+    block-more i j (suc k) =
+        rw (add-one (suc k), add-suc i k, ← (suc-add i k))
+        (sum-append c q (stretch y w i j) (block y w (suc i) j (suc k))
+        ∙ omega (arith, rw (add-one k) at (block-more (suc i) j k), sum-append c q (stretch y w i j) (block y w (suc i) j k)))

@@ -1,0 +1,93 @@
+-- Going outward from the centre, ahead before behind, the first tick with the least sum is the chosen one. Assumes nothing.
+use Prim.Native.Nat.{ℕ, _+_, _-_, _%_, _≤_, _<_}
+use mathlib.Core.Path.{_≡_, refl, ap, sym, _∙_}
+use mathlib.Core.Logic.{_⊎_, inl, inr, ⊎-elim}
+use native.Mathlib.Omega.{arith}
+use native.Mathlib.Decide.{decLt}
+use native.Mathlib.Nat.{mod-lt}
+use Rattle.cycle.specs.Distance.{distance}
+use Rattle.cycle.proofs.DistanceLaws.{distance-half}
+use Rattle.cycle.proofs.Ways.{Way, way-mod, mod-way, way-back, distance-way}
+use Rattle.median.specs.Choice.{candidates, Chosen}
+use Rattle.median.proofs.Rank.{reached}
+use Rattle.median.proofs.Choice.{candidate, candidate-below}
+
+-- the ticks e ahead of a and e behind it
+abbrev pub front : ℕ → ℕ → ℕ → ℕ
+front c a e = (a + e) % c
+
+abbrev pub rear : ℕ → ℕ → ℕ → ℕ
+rear c a e = (a + (c - e)) % c
+
+-- no tick nearer to a than e has the least sum
+abbrev pub Passed : ℕ → ℕ → (ℕ → ℕ) → ℕ → ℕ → Type 0
+Passed c a sum least e = (q : ℕ) → q < c → distance c a q < e → sum q ≡ least → ⊥
+
+module _ (c a : ℕ) (ha : a < c) where
+  pub tick : (e : ℕ) → (a + e) % c < c
+  tick e = mod-lt (a + e) (omega arith)
+
+  front-near : (e : ℕ) → e ≤ c → distance c a (front c a e) ≤ e
+  front-near e h = omega (arith, distance-way (c - e) ha (tick e) (omega arith) (mod-way c a e ha h))
+
+  rear-near : (e : ℕ) → e ≤ c → distance c a (rear c a e) ≤ e
+  rear-near e h = omega (arith, distance-way e ha (tick (c - e)) (omega arith) (mod-way c a (c - e) ha (omega arith)))
+
+  -- there is no third at that distance
+  two : (q : ℕ) → q < c → (q ≡ front c a (distance c a q)) ⊎ (q ≡ rear c a (distance c a q))
+  two q h = ⊎-elim
+      (λ (w : Way c a q (distance c a q)). inl (sym (way-mod h w)))
+      (λ (w : Way c q a (distance c a q)). inr (sym (way-mod h (way-back (omega (arith, distance-half c a q ha h)) w))))
+      (reached c a q ha h)
+
+  module _ (sum : ℕ → ℕ) (least : ℕ) (low : (q : ℕ) → q < c → least ≤ sum q) where
+    -- a tick with the least sum, no farther than e, is chosen if it is the one ahead or the one ahead has not the least sum
+    found : (e p : ℕ) → p < c → Passed c a sum least e → distance c a p ≤ e → sum p ≡ least
+        → ((q : ℕ) → q < c → sum q ≡ least → distance c a q ≡ e → (q ≡ p → ⊥) → p ≡ front c a e) → Chosen c a sum (candidates c) p
+    found e p hp passed near is ahead = record {
+      candidate = candidate c p hp;
+      least = λ q i. omega (arith, low q (candidate-below c q i));
+      nearest = λ q i s. omega (arith, far q (candidate-below c q i) (s ∙ is));
+      ahead = λ q i s d ne. ahead q (candidate-below c q i) (s ∙ is) (d ∙ at) ne ∙ ap (front c a) (sym at);
+    }
+      where
+        far : (q : ℕ) → q < c → sum q ≡ least → e ≤ distance c a q
+        far q h s = go (decLt (distance c a q) e)
+          where
+            go : Dec (distance c a q < e) → e ≤ distance c a q
+            go (yes l) = absurd (passed q h l s)
+            go (no l) = omega arith
+
+        at : distance c a p ≡ e
+        at = omega (arith, far p hp is)
+
+    pub found-front : (e : ℕ) → e ≤ c → Passed c a sum least e → sum (front c a e) ≡ least → Chosen c a sum (candidates c) (front c a e)
+    found-front e h passed is = found e (front c a e) (tick e) passed (front-near e h) is (λ q g s d ne. refl)
+
+    pub found-rear : (e : ℕ) → e ≤ c → Passed c a sum least e → (sum (front c a e) ≡ least → ⊥) → sum (rear c a e) ≡ least → Chosen c a sum (candidates c) (rear c a e)
+    found-rear e h passed no-front is = found e (rear c a e) (tick (c - e)) passed (rear-near e h) is third
+      where
+        third : (q : ℕ) → q < c → sum q ≡ least → distance c a q ≡ e → (q ≡ rear c a e → ⊥) → rear c a e ≡ front c a e
+        third q g s d ne = ⊎-elim
+            (λ (f : q ≡ front c a (distance c a q)). absurd (no-front (ap sum (sym (f ∙ ap (front c a) d)) ∙ s)))
+            (λ (r : q ≡ rear c a (distance c a q)). absurd (ne (r ∙ ap (rear c a) d)))
+            (two q g)
+
+    pub passed-none : Passed c a sum least 0
+    passed-none q h l s = omega arith
+
+    pub passed-more : (e : ℕ) → Passed c a sum least e → (sum (front c a e) ≡ least → ⊥) → (sum (rear c a e) ≡ least → ⊥) → Passed c a sum least (e + 1)
+    passed-more e passed f r q h l s = go (decLt (distance c a q) e)
+      where
+        go : Dec (distance c a q < e) → ⊥
+        go (yes n) = passed q h n s
+        go (no n) =
+            let d : distance c a q ≡ e = omega arith in
+            ⊎-elim
+            (λ (x : q ≡ front c a (distance c a q)). f (ap sum (sym (x ∙ ap (front c a) d)) ∙ s))
+            (λ (x : q ≡ rear c a (distance c a q)). r (ap sum (sym (x ∙ ap (rear c a) d)) ∙ s))
+            (two q h)
+
+    -- so one is met before the search ends
+    pub passed-all : (e q : ℕ) → c ≤ e → Passed c a sum least e → q < c → sum q ≡ least → ⊥
+    passed-all e q h passed g s = passed q g (omega (arith, distance-half c a q ha g)) s

@@ -1,0 +1,105 @@
+-- Laws of changed parts of memory: one store more. Assumes nothing.
+use Prim.Native.Nat.{ℕ, _+_, _≤_, _<_}
+use mathlib.Core.Path.{_≡_, refl, _∙_}
+use mathlib.Core.List.{List}
+use native.Mathlib.Omega.{arith}
+use native.Mathlib.Decide.{ℕ-discrete}
+use lib.ListN.{length, getD, set, length-set}
+use lib.Seq.{getD-set-same, getD-set-other}
+use Rattle.memory.specs.Memory.{Holds, Changed, ChangedBoth}
+
+-- a part with one number more
+holds-turn : (w : List ℕ) (base q : ℕ) (f : ℕ → ℕ) (v : ℕ) → Holds w base q f → base + q < length w → v ≡ f q → Holds (set w (base + q) v) base (q + 1) f
+holds-turn w base q f v h room e k l = go (ℕ-discrete k q)
+  where
+    go : Dec (k ≡ q) → getD (set w (base + q) v) (base + k) 0 ≡ f k
+    go (yes d) = rw d (getD-set-same w (base + q) v 0 room ∙ e)
+    go (no d) = getD-set-other w (base + q) (base + k) v 0 (omega arith) ∙ h k (omega arith)
+
+module _ {w₀ : List ℕ} {base : ℕ} {f : ℕ → ℕ} where
+  pub changed-start : Changed w₀ w₀ base 0 f
+  changed-start = record { len = refl; before = λ k h. refl; holds = λ k h. absurd (omega arith); after = λ k h. refl }
+
+  pub changed-turn : {w : List ℕ} {q v : ℕ} → Changed w₀ w base q f → base + q < length w₀ → v ≡ f q → Changed w₀ (set w (base + q) v) base (q + 1) f
+  changed-turn {w} {q} {v} c room e = record {
+    len = length-set w (base + q) v ∙ c .len;
+    before = λ k h. getD-set-other w (base + q) k v 0 (omega arith) ∙ c .before k h;
+    holds = holds-turn w base q f v (c .holds) (omega (arith, c .len)) e;
+    after = λ k h. getD-set-other w (base + q) k v 0 (omega arith) ∙ c .after k (omega arith);
+  }
+
+module _ {w₀ : List ℕ} {base other : ℕ} {f g : ℕ → ℕ} where
+  pub both-start : ChangedBoth w₀ w₀ base other 0 f g
+  both-start = record {
+    len = refl;
+    before = λ k h. refl;
+    first = λ k h. absurd (omega arith);
+    between = λ k h i. refl;
+    second = λ k h. absurd (omega arith);
+    after = λ k h. refl;
+  }
+
+  -- the second part's number is stored first
+  pub both-turn : {w : List ℕ} {q u v : ℕ} → ChangedBoth w₀ w base other q f g → base + q < other → other + q < length w₀ → u ≡ f q → v ≡ g q
+      → ChangedBoth w₀ (set (set w (other + q) v) (base + q) u) base other (q + 1) f g
+  both-turn {w} {q} {u} {v} c order room d e = record {
+    len = length-set x (base + q) u ∙ length-set w (other + q) v ∙ c .len;
+    before = λ k h. outside k (omega arith) (omega arith) ∙ c .before k h;
+    first = holds-turn x base q f u (λ k h. getD-set-other w (other + q) (base + k) v 0 (omega arith) ∙ c .first k h) (omega (arith, length-set w (other + q) v, c .len)) d;
+    between = λ k h i. outside k (omega arith) (omega arith) ∙ c .between k (omega arith) i;
+    second = λ k h. getD-set-other x (base + q) (other + k) u 0 (omega arith) ∙ holds-turn w other q g v (c .second) (omega (arith, c .len)) e k h;
+    after = λ k h. outside k (omega arith) (omega arith) ∙ c .after k (omega arith);
+  }
+    where
+      x : List ℕ
+      x = set w (other + q) v
+
+      outside : (k : ℕ) → (k ≡ base + q → ⊥) → (k ≡ other + q → ⊥) → getD (set (set w (other + q) v) (base + q) u) k 0 ≡ getD w k 0
+      outside k a b = getD-set-other (set w (other + q) v) (base + q) k u 0 a ∙ getD-set-other w (other + q) k v 0 b
+
+-- a part that holds f already counts as changed to f
+pub changed-none : (w : List ℕ) (base n : ℕ) (f : ℕ → ℕ) → Holds w base n f → Changed w w base n f
+changed-none w base n f h = record { len = refl; before = λ k i. refl; holds = h; after = λ k i. refl }
+
+-- the same part changed again
+pub changed-again : {w₀ w w′ : List ℕ} {base n : ℕ} {f g : ℕ → ℕ} → Changed w₀ w base n f → Changed w w′ base n g → Changed w₀ w′ base n g
+changed-again c d = record {
+  len = d .len ∙ c .len;
+  before = λ k h. d .before k h ∙ c .before k h;
+  holds = d .holds;
+  after = λ k h. d .after k h ∙ c .after k h;
+}
+
+-- only the numbers of the part count
+pub changed-is : {w₀ w : List ℕ} {base n : ℕ} {f : ℕ → ℕ} (g : ℕ → ℕ) → Changed w₀ w base n f → ((q : ℕ) → q < n → f q ≡ g q) → Changed w₀ w base n g
+changed-is g c e = record { len = c .len; before = c .before; holds = λ q h. c .holds q h ∙ e q h; after = c .after }
+
+pub both-is : {w₀ w : List ℕ} {base other n : ℕ} {f g : ℕ → ℕ} (f′ g′ : ℕ → ℕ) → ChangedBoth w₀ w base other n f g
+    → ((q : ℕ) → q < n → f q ≡ f′ q) → ((q : ℕ) → q < n → g q ≡ g′ q) → ChangedBoth w₀ w base other n f′ g′
+both-is f′ g′ c d e = record {
+  len = c .len;
+  before = c .before;
+  first = λ q h. c .first q h ∙ d q h;
+  between = c .between;
+  second = λ q h. c .second q h ∙ e q h;
+  after = c .after;
+}
+
+-- a part before the changed one, or after it, holds what it held
+pub holds-before : {w₀ w : List ℕ} {base n : ℕ} {f : ℕ → ℕ} → Changed w₀ w base n f → (a m : ℕ) (g : ℕ → ℕ) → a + m ≤ base → Holds w₀ a m g → Holds w a m g
+holds-before c a m g l h q i = c .before (a + q) (omega arith) ∙ h q i
+
+pub holds-after : {w₀ w : List ℕ} {base n : ℕ} {f : ℕ → ℕ} → Changed w₀ w base n f → (a m : ℕ) (g : ℕ → ℕ) → base + n ≤ a → Holds w₀ a m g → Holds w a m g
+holds-after c a m g l h q i = c .after (a + q) (omega arith) ∙ h q i
+
+-- the second part changed, and then both
+pub both-after : {w₀ w₁ w₂ : List ℕ} {base other n : ℕ} {f g h : ℕ → ℕ} → Changed w₀ w₁ other n f → ChangedBoth w₁ w₂ base other n g h → base + n ≤ other
+    → ChangedBoth w₀ w₂ base other n g h
+both-after x y order = record {
+  len = y .len ∙ x .len;
+  before = λ k i. y .before k i ∙ x .before k (omega arith);
+  first = y .first;
+  between = λ k i j. y .between k i j ∙ x .before k j;
+  second = y .second;
+  after = λ k i. y .after k i ∙ x .after k i;
+}
