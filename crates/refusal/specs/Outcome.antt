@@ -41,3 +41,8 @@ refusal r = refused (numberOf r) (placeOf r)
 abbrev pub verdict : Verdict → Outcome Unit
 verdict Passed = accepted tt
 verdict (Refused r) = refusal r
+
+-- what lent memory holds after a call: the new contents if it was accepted, and the old ones if it was refused
+abbrev pub leaves : {A B : Type 0} → Outcome A → B → B → B
+leaves (accepted result) new old = new
+leaves (refused number place) new old = old

@@ -1,0 +1,46 @@
+-- What a filter call is answered and what it leaves in lent memory (document 01, "Two engines, lent memory" and "Refused calls").
+-- The two engines differ in the cycles that they take and in the work memory that they need, and in nothing else.
+use Prim.Native.Nat.{ℕ, _+_, _*_}
+use mathlib.Core.Path.{_≡_}
+use mathlib.Core.List.{List, [], _∷_, _++_}
+use lib.ListN.{length}
+use Rattle.lists.specs.Tabulate.{written}
+use Rattle.refusal.specs.Limits.{levelCycle}
+use Rattle.refusal.specs.Outcome.{Outcome, Rule, firstDue, refusal, leaves}
+use Rattle.refusal.specs.Outcome.Outcome.{accepted}
+use Rattle.cycle.specs.Calls.{readingRule}
+use Rattle.shape.specs.Rules.{shapeRules, area, rowsRules, inputRule, bufferRule, workRule}
+use Rattle.shape.specs.declared.Shape.{Shape}
+use Rattle.window.specs.Phase.{phaseAt}
+use Rattle.filter.specs.declared.FilterAnswer.{FilterAnswer}
+use Rattle.filter.specs.declared.FilterAnswer.the-variants.{Filtered, Refused}
+
+-- what an engine takes: cycles up to a limit, and so many numbers of work memory
+pub record Engine : Type 0 where
+  pub limit : ℕ
+  pub need : ℕ
+
+-- the level engine "takes C up to 4,096 and needs C·(N + 1) numbers of work memory"
+abbrev pub levelEngine : Shape → Engine
+levelEngine s = record { limit = levelCycle; need = s .cycle * (s .columns + 1) }
+
+-- 5 to 9
+abbrev pub imageRules : Shape → ℕ → ℕ → ℕ → List ℕ → ℕ → ℕ → List Rule
+imageRules s need first end image output work =
+    rowsRules (s .rows) first end
+    ++ (inputRule (area s) (length image) ∷ bufferRule (area s) output ∷ workRule need work ∷ readingRule (s .cycle) image ∷ [])
+
+-- the tests of a filter in rising order, and its answer
+unfoldable pub filterCall : Engine → Shape → ℕ → ℕ → List ℕ → ℕ → ℕ → Outcome Unit
+filterCall e s first end image output work = firstDue (shapeRules (e .limit) s ++ imageRules s (e .need) first end image output work) tt
+
+abbrev pub filterTold : FilterAnswer → Outcome Unit
+filterTold Filtered = accepted tt
+filterTold (Refused r) = refusal r
+
+-- A call of an engine: the answer, and all of the output and of the work memory at its end. If it is accepted, the rows of the range
+-- hold the chosen phases and the needed work numbers are zero; everything else, and everything after a refusal, is as it was.
+pub record Call (e : Engine) (s : Shape) (first end : ℕ) (image output₀ work₀ : List ℕ) (r : FilterAnswer) (output₁ work₁ : List ℕ) : Type 0 where
+  pub answer : filterTold r ≡ filterCall e s first end image (length output₀) (length work₀)
+  pub output : output₁ ≡ leaves (filterTold r) (written (phaseAt s image) (first * s .columns) (end * s .columns) output₀) output₀
+  pub work : work₁ ≡ leaves (filterTold r) (written (λ k. 0) 0 (e .need) work₀) work₀
