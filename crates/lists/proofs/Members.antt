@@ -18,6 +18,14 @@ pub each-append : {A : Type 0} (P : A → Type 0) (xs ys : List A) → Each P xs
 each-append P [] ys e f = f
 each-append P (x ∷ xs) ys e f = (e .0, each-append P xs ys (e .1) f)
 
+pub each-left : {A : Type 0} (P : A → Type 0) (xs ys : List A) → Each P (xs ++ ys) → Each P xs
+each-left P [] ys h = tt
+each-left P (x ∷ xs) ys (a, h) = (a, each-left P xs ys h)
+
+pub each-right : {A : Type 0} (P : A → Type 0) (xs ys : List A) → Each P (xs ++ ys) → Each P ys
+each-right P [] ys h = h
+each-right P (x ∷ xs) ys (a, h) = each-right P xs ys h
+
 -- whether a number is an element
 pub in-dec : (y : ℕ) (xs : List ℕ) → Dec (In y xs)
 in-dec y [] = no (λ i. i)

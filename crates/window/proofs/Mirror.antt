@@ -34,3 +34,20 @@ mirror-below n h p g l = go (decLt p h)
         on : Dec (p - h < n) → mirror n h p < n
         on (yes b) = omega (arith, mirror-middle n h p (omega arith) b)
         on (no b) = omega (arith, mirror-high n h p (omega arith) (omega arith))
+
+-- One position on, from the padding before the axis to that behind it: towards the edge, the edge repeated, along the axis, the far
+-- edge repeated, away from it.
+pub mirror-towards : (n h p : ℕ) → p + 1 < h → mirror n h p ≡ mirror n h (p + 1) + 1
+mirror-towards n h p l = omega (arith, mirror-low n h p (omega arith), mirror-low n h (p + 1) l)
+
+pub mirror-edge : (n h p : ℕ) → 0 < n → p + 1 ≡ h → mirror n h p ≡ mirror n h (p + 1)
+mirror-edge n h p l e = omega (arith, mirror-low n h p (omega arith), mirror-middle n h (p + 1) (omega arith) (omega arith))
+
+pub mirror-along : (n h p : ℕ) → h ≤ p → p + 1 < h + n → mirror n h (p + 1) ≡ mirror n h p + 1
+mirror-along n h p l g = omega (arith, mirror-middle n h p l (omega arith), mirror-middle n h (p + 1) (omega arith) (omega arith))
+
+pub mirror-far-edge : (n h p : ℕ) → 0 < n → p + 1 ≡ h + n → mirror n h (p + 1) ≡ mirror n h p
+mirror-far-edge n h p l e = omega (arith, mirror-middle n h p (omega arith) (omega arith), mirror-high n h (p + 1) (omega arith) (omega arith))
+
+pub mirror-away : (n h p : ℕ) → h + n ≤ p → p + 1 < h + 2 * n → mirror n h p ≡ mirror n h (p + 1) + 1
+mirror-away n h p l g = omega (arith, mirror-high n h p (omega arith) (omega arith), mirror-high n h (p + 1) (omega arith) (omega arith))
