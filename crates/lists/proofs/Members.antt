@@ -32,3 +32,7 @@ in-dec y (x ∷ xs) = go (ℕ-discrete y x) (in-dec y xs)
 pub in-some : {A : Type 0} (y : A) (xs : List A) → In y xs → 0 < length xs
 in-some y [] i = absurd i
 in-some y (x ∷ xs) i = omega arith
+
+pub each-split : {A : Type 0} (P : A → Type 0) (xs ys : List A) → Each P (xs ++ ys) → Each P xs × Each P ys
+each-split P [] ys e = (tt, e)
+each-split P (x ∷ xs) ys e = let r = each-split P xs ys (e .1) in ((e .0, r .0), r .1)

@@ -31,11 +31,12 @@ recordBytes s readings =
 unfoldable pub recordLength : Shape → ℕ
 recordLength s = 22 + s .rows * (3 + 2 * s .columns)
 
--- 1 to 4, 6, 7, 9
+-- 1 to 4, then 6, 7 and 9
+abbrev pub callRules : Shape → List ℕ → ℕ → List Rule
+callRules s readings room = inputRule (area s) (length readings) ∷ bufferRule (recordLength s) room ∷ readingRule (s .cycle) readings ∷ []
+
 abbrev pub writeRules : Shape → List ℕ → ℕ → List Rule
-writeRules s readings room =
-    shapeRules longestCycle s
-    ++ (inputRule (area s) (length readings) ∷ bufferRule (recordLength s) room ∷ readingRule (s .cycle) readings ∷ [])
+writeRules s readings room = shapeRules longestCycle s ++ callRules s readings room
 
 -- what the writer is answered, with room for that many bytes
 unfoldable pub writeCall : Shape → List ℕ → ℕ → Outcome ℕ

@@ -1,0 +1,63 @@
+use borrow.Author.Needs.{needs}
+use Rattle.record_read.proofs.size_field_verdict.Statement.{statement}
+use Rattle.record_read.proofs.size_field_verdict.Tie as tie
+use Rattle.record_read.proofs.size_field_verdict.Reads as reads
+use Rattle.record_read.proofs.size_field_verdict.Lts as lts
+use Rattle.record_format.proofs.number_at.Reads as number-at-reads
+use Rattle.record_read.proofs.field_verdict.Reads as field-verdict-reads
+use Rattle.shape.proofs.size_verdict.Reads as size-verdict-reads
+
+-- src/lib.rt:69:11
+field-verdict-requires : tie.Need-field-verdict-requires
+field-verdict-requires c κs = search needs
+
+-- src/lib.rt:70:26
+enum-known-f : tie.Need-enum-known-f
+enum-known-f c = search needs
+
+-- src/lib.rt:71:41
+enum-told : tie.Need-enum-told
+enum-told c = search needs
+
+-- src/lib.rt:71:41
+number-at-requires : tie.Need-number-at-requires
+number-at-requires c κs = search needs
+
+-- src/lib.rt:71:41
+cast-size-verdict : tie.Need-cast-size-verdict
+cast-size-verdict c = search needs
+
+-- src/lib.rt:71:69
+number-at-requires-2 : tie.Need-number-at-requires-2
+number-at-requires-2 c κs = search needs
+
+-- src/lib.rt:71:69
+cast-size-verdict-2 : tie.Need-cast-size-verdict-2
+cast-size-verdict-2 c = search needs
+
+-- src/lib.rt:71:28
+size-verdict-requires : tie.Need-size-verdict-requires
+size-verdict-requires c κs = search needs
+
+-- src/lib.rt:65:1
+returns : tie.Need-returns
+returns c = search needs
+
+-- src/lib.rt:65:1
+returns-2 : tie.Need-returns-2
+returns-2 c = search needs
+
+pub size-field-verdict-spec : {M : Type 1} → statement M
+size-field-verdict-spec =
+    tie.close
+    (tie.spec
+    field-verdict-requires
+    enum-known-f
+    enum-told
+    number-at-requires
+    cast-size-verdict
+    number-at-requires-2
+    cast-size-verdict-2
+    size-verdict-requires
+    returns
+    returns-2)
