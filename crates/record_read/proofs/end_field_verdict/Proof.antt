@@ -1,3 +1,15 @@
+use Prim.Native.Nat.{_+_, _*_, _-_, _≤_, _<_}
+use mathlib.Core.Path.{_≡_, refl, sym, ap, _∙_}
+use native.Mathlib.Omega.{arith}
+use mathlib.Core.List.{List, [], _∷_}
+use lib.ListN.{length, getD, drop}
+use lib.Dec.{ltb}
+use Rattle.refusal.specs.Outcome.{Rule, rule, Clear, firstDue, verdict}
+use Rattle.refusal.specs.Outcome.Outcome.{accepted, refused}
+use Rattle.refusal.proofs.Outcome.{tests, passed-clear, passed-on, refused-before}
+use Rattle.record_format.specs.Fields.{numberAt, numbersAt, cycleTag, sizeTag, maskTag, rowTag, endTag}
+use Rattle.record_format.specs.Reading.{cycleIn, rowsIn, columnsIn, maskDue, shapeIn, rowAt, endAt, fieldRules, maskValueRules, maskFieldRules, endFieldRules}
+use Rattle.record_format.proofs.FieldRead.{FieldAt, field-clear, length-numbers-at, getD-numbers-at, numbers-at-last}
 use borrow.Author.Needs.{needs}
 use Rattle.record_read.proofs.end_field_verdict.Statement.{statement}
 use Rattle.record_read.proofs.end_field_verdict.Tie as tie
@@ -6,6 +18,15 @@ use Rattle.record_read.proofs.end_field_verdict.Lts as lts
 use Rattle.record_read.proofs.field_verdict.Reads as field-verdict-reads
 
 -- src/lib.rt:215:11
+-- the last test, which follows those of the field
+abbrev trailing : tie.After-enum-told → List Rule
+trailing c = let a = c .before .before .before .before .args in rule (ltb (a .at + 3) (length (a .bytes .now))) 13 (a .at + 3) ∷ []
+
+on : (c : tie.After-enum-told) → let a = c .before .before .before .before .args in firstDue (endFieldRules (a .bytes .now)) (tt {0}) ≡ firstDue (trailing c) tt
+on c =
+    let s = c .before .before .before .before in
+    rw (← (s .pre .0)) (passed-on (fieldRules (s .args .bytes .now) (s .args .at) endTag 0) (c .before .before .field-verdict .ensures) tt (trailing c) (c .enum-told .given .1))
+
 field-verdict-requires : tie.Need-field-verdict-requires
 field-verdict-requires c κs = search needs
 
@@ -27,15 +48,24 @@ add-t9 c = search needs
 
 -- src/lib.rt:219:17
 returns : tie.Need-returns
-returns c = search needs
+unfolding firstDue
+returns c =
+    let at = c .before .before .before .before .before .args .at in
+    let due : refused 13 (at + 3) ≡ firstDue (trailing (c .before)) (tt {0}) = search tests in
+    due ∙ sym (on (c .before))
 
 -- src/lib.rt:211:1
 returns-2 : tie.Need-returns-2
-returns-2 c = search needs
+returns-2 c =
+    let s = c .before .before .before .before .before in
+    rw (← (s .pre .0)) (sym (refused-before (fieldRules (s .args .bytes .now) (s .args .at) endTag 0) (c .before .before .before .field-verdict .ensures) tt _ (c .before .f .given .1)))
 
 -- src/lib.rt:211:1
 returns-3 : tie.Need-returns-3
-returns-3 c = search needs
+unfolding firstDue
+returns-3 c =
+    let clear : accepted tt ≡ firstDue (trailing (c .before)) (tt {0}) = search tests in
+    clear ∙ sym (on (c .before))
 
 pub end-field-verdict-spec : {M : Type 1} → statement M
 end-field-verdict-spec =

@@ -1,3 +1,7 @@
+use mathlib.Core.Path.{_≡_, sym, ap, _∙_}
+use native.Mathlib.Omega.{arith}
+use Rattle.refusal.specs.Outcome.{Rule, Clear, firstDue, verdict}
+use Rattle.refusal.proofs.Outcome.{tests, passed-clear, passed-on, refused-before}
 use borrow.Author.Needs.{needs}
 use Rattle.record_read.proofs.field_verdict.Statement.{statement}
 use Rattle.record_read.proofs.field_verdict.Tie as tie
@@ -11,7 +15,8 @@ sub-if1 c = search needs
 
 -- src/lib.rt:40:9
 returns : tie.Need-returns
-returns c = search needs
+unfolding firstDue
+returns c = search tests
 
 -- src/lib.rt:42:8
 shared-slice-read-if2 : tie.Need-shared-slice-read-if2
@@ -19,7 +24,8 @@ shared-slice-read-if2 c = search needs
 
 -- src/lib.rt:43:9
 returns-2 : tie.Need-returns-2
-returns-2 c = search needs
+unfolding firstDue
+returns-2 c = search tests
 
 -- src/lib.rt:45:25
 add-number-at : tie.Need-add-number-at
@@ -35,7 +41,8 @@ cast-if3 c = search needs
 
 -- src/lib.rt:46:9
 returns-3 : tie.Need-returns-3
-returns-3 c = search needs
+unfolding firstDue
+returns-3 c = let e = sym (c .before .number-at .ensures) in rw e (search tests)
 
 -- src/lib.rt:48:23
 add-if4 : tie.Need-add-if4
@@ -47,11 +54,13 @@ sub-if4 c = search needs
 
 -- src/lib.rt:49:9
 returns-4 : tie.Need-returns-4
-returns-4 c = search needs
+unfolding firstDue
+returns-4 c = let e = sym (c .before .before .number-at .ensures) in rw e (search tests)
 
 -- src/lib.rt:35:1
 returns-5 : tie.Need-returns-5
-returns-5 c = search needs
+unfolding firstDue
+returns-5 c = let e = sym (c .before .before .number-at .ensures) in rw e (search tests)
 
 pub field-verdict-spec : {M : Type 1} → statement M
 field-verdict-spec =

@@ -1,3 +1,16 @@
+use Prim.Native.Nat.{_+_, _*_, _-_, _≤_, _<_}
+use mathlib.Core.Path.{_≡_, refl, sym, ap, _∙_}
+use native.Mathlib.Omega.{arith}
+use mathlib.Core.List.{List, [], _∷_}
+use lib.ListN.{length, getD, drop}
+use lib.Dec.{ltb}
+use borrow.Author.Tests.{lt-ltb, le-ltb}
+use Rattle.lists.specs.First.{firstBad}
+use Rattle.lists.proofs.First.{first-here, first-later, first-none}
+use Rattle.cycle.specs.Distance.{isReading}
+use Rattle.record_format.specs.Fields.{numberAt, numbersAt, cycleTag, sizeTag, maskTag, rowTag, endTag}
+use Rattle.record_format.specs.Reading.{cycleIn, rowsIn, columnsIn, maskDue, shapeIn, rowAt, endAt, fieldRules, maskValueRules, maskFieldRules, endFieldRules}
+use Rattle.record_format.proofs.FieldRead.{FieldAt, field-clear, length-numbers-at, getD-numbers-at, numbers-at-last}
 use borrow.Author.Needs.{needs}
 use Rattle.record_read.proofs.first_bad.Statement.{statement}
 use Rattle.record_read.proofs.first_bad.Tie as tie
@@ -6,10 +19,11 @@ use Rattle.record_read.proofs.first_bad.Lts as lts
 use Rattle.record_format.proofs.number_at.Reads as number-at-reads
 
 abbrev Inv-loop : tie.InvT-loop
-Inv-loop bytes at n cycle k₀ k = ?
+Inv-loop bytes at n cycle k₀ k =
+    let xs = numbersAt bytes at n in (k ≤ n) × (firstBad (isReading cycle) xs ≡ k + firstBad (isReading cycle) (drop k xs))
 
 abbrev μ-loop : tie.MeasureT-loop
-μ-loop bytes at n cycle k₀ k = ?
+μ-loop bytes at n cycle k₀ k = n - k
 
 -- src/lib.rt:161:5
 loop-holds : tie.Need-loop-holds Inv-loop μ-loop
@@ -33,7 +47,15 @@ cast-if1 c = search needs
 
 -- src/lib.rt:163:13
 returns : tie.Need-returns Inv-loop μ-loop
-returns c = search needs
+returns c =
+    let a = c .before .before .before .before .before .args in
+    let k = c .before .before .before .loop .k in
+    let xs = numbersAt (a .bytes .now) (a .at) (a .n) in
+    let n = length-numbers-at (a .bytes .now) (a .at) (a .n) in
+    let x = getD-numbers-at (a .bytes .now) (a .at) (a .n) k (omega arith) in
+    let e = c .before .number-at .ensures in
+    let t = c .if1 .taken in
+    omega (arith, first-here (isReading (a .cycle)) 0 xs k (omega arith) (le-ltb (getD xs k 0) (a .cycle) (omega arith)))
 
 -- src/lib.rt:165:9
 add-k : tie.Need-add-k Inv-loop μ-loop
@@ -45,11 +67,22 @@ loop-less c = search needs
 
 -- src/lib.rt:161:5
 loop-again : tie.Need-loop-again Inv-loop μ-loop
-loop-again c = search needs
+loop-again c =
+    let a = c .before .before .before .before .before .args in
+    let k = c .before .before .before .loop .k in
+    let xs = numbersAt (a .bytes .now) (a .at) (a .n) in
+    let n = length-numbers-at (a .bytes .now) (a .at) (a .n) in
+    let x = getD-numbers-at (a .bytes .now) (a .at) (a .n) k (omega arith) in
+    let e = c .before .number-at .ensures in
+    let t = c .if1 .left in
+    omega (arith, first-later (isReading (a .cycle)) 0 xs k (omega arith) (lt-ltb (getD xs k 0) (a .cycle) (omega arith)))
 
 -- src/lib.rt:156:1
 returns-2 : tie.Need-returns-2 Inv-loop μ-loop
-returns-2 c = search needs
+returns-2 c =
+    let a = c .before .before .before .args in
+    let n = length-numbers-at (a .bytes .now) (a .at) (a .n) in
+    omega (arith, first-none (isReading (a .cycle)) 0 (numbersAt (a .bytes .now) (a .at) (a .n)) (c .before .loop .k) (omega arith))
 
 pub first-bad-spec : {M : Type 1} → statement M
 first-bad-spec =

@@ -1,3 +1,15 @@
+use Prim.Native.Nat.{_+_, _*_, _-_, _≤_, _<_}
+use mathlib.Core.Path.{_≡_, refl, sym, ap, _∙_}
+use native.Mathlib.Omega.{arith}
+use mathlib.Core.List.{List, [], _∷_}
+use lib.ListN.{length, getD, drop}
+use lib.Dec.{ltb}
+use Rattle.refusal.specs.Outcome.{Rule, rule, Clear, firstDue, verdict}
+use Rattle.refusal.specs.Outcome.Outcome.{refused}
+use Rattle.refusal.proofs.Outcome.{tests, passed-clear, passed-on, refused-before}
+use Rattle.record_format.specs.Fields.{numberAt, numbersAt, cycleTag, sizeTag, maskTag, rowTag, endTag}
+use Rattle.record_format.specs.Reading.{cycleIn, rowsIn, columnsIn, maskDue, shapeIn, rowAt, endAt, fieldRules, maskValueRules, maskFieldRules, endFieldRules}
+use Rattle.record_format.proofs.FieldRead.{FieldAt, field-clear, length-numbers-at, getD-numbers-at, numbers-at-last}
 use borrow.Author.Needs.{needs}
 use Rattle.record_read.proofs.mask_field_verdict.Statement.{statement}
 use Rattle.record_read.proofs.mask_field_verdict.Tie as tie
@@ -14,7 +26,8 @@ sub-if1 c = search needs
 
 -- src/lib.rt:147:9
 returns : tie.Need-returns
-returns c = search needs
+unfolding firstDue
+returns c = search tests
 
 -- src/lib.rt:149:46
 mask-due-requires : tie.Need-mask-due-requires
@@ -33,20 +46,35 @@ enum-told : tie.Need-enum-told
 enum-told c = search needs
 
 -- src/lib.rt:151:48
+-- what the tests of the field said, with the length that is due
+said : (c : tie.After-field-verdict) → let bytes = c .before .before .before .before .args .bytes .now in verdict (c .field-verdict .result) ≡ firstDue (fieldRules bytes 12 maskTag (maskDue bytes)) tt
+said c = rw (c .before .mask-due .ensures) at (c .field-verdict .ensures)
+
+passed : (c : tie.After-enum-told) → let bytes = c .before .before .before .before .before .before .args .bytes .now in FieldAt bytes 12 maskTag (maskDue bytes)
+passed c =
+    let bytes = c .before .before .before .before .before .before .args .bytes .now in
+    field-clear bytes 12 maskTag (maskDue bytes) (passed-clear (fieldRules bytes 12 maskTag (maskDue bytes)) (said (c .before .before)) (c .enum-told .given .1))
+
 shape-in-requires : tie.Need-shape-in-requires
-shape-in-requires c κs = search needs
+shape-in-requires c κs = omega (arith, passed c .whole)
 
 -- src/lib.rt:151:28
 mask-values-verdict-requires : tie.Need-mask-values-verdict-requires
-mask-values-verdict-requires c κs = search needs
+mask-values-verdict-requires c κs = let p = c .before .before .before .before .before .before .before .pre in rw (c .shape-in .ensures) (p .1, p .2)
 
 -- src/lib.rt:142:1
 returns-2 : tie.Need-returns-2
-returns-2 c = search needs
+returns-2 c =
+    let bytes = c .before .before .before .before .before .before .before .args .bytes .now in
+    sym (refused-before (fieldRules bytes 12 maskTag (maskDue bytes)) (said (c .before .before .before)) tt _ (c .before .f .given .1))
 
 -- src/lib.rt:142:1
 returns-3 : tie.Need-returns-3
-returns-3 c = search needs
+returns-3 c =
+    let k = c .before .before in
+    let a = k .before .before .before .before .before .before .args in
+    let on = passed-on (fieldRules (a .bytes .now) 12 maskTag (maskDue (a .bytes .now))) (said (k .before .before)) (tt {0}) (maskValueRules (shapeIn (a .bytes .now)) (a .room)) (k .enum-told .given .1) in
+    c .mask-values-verdict .ensures ∙ rw (c .before .shape-in .ensures) (sym on)
 
 pub mask-field-verdict-spec : {M : Type 1} → statement M
 mask-field-verdict-spec =

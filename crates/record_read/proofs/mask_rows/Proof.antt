@@ -1,3 +1,7 @@
+use mathlib.Core.Path.{_≡_, sym, ap, _∙_}
+use native.Mathlib.Omega.{arith}
+use Rattle.record_format.specs.Fields.{numberAt}
+use Rattle.record_format.proofs.FieldRead.{MaskIn, mask-empty, mask-given}
 use borrow.Author.Needs.{needs}
 use Rattle.record_read.proofs.mask_rows.Statement.{statement}
 use Rattle.record_read.proofs.mask_rows.Tie as tie
@@ -11,11 +15,15 @@ number-at-requires c κs = search needs
 
 -- src/lib.rt:88:9
 returns : tie.Need-returns
-returns c = search needs
+returns c = let n = c .before .number-at in sym (mask-empty (c .before .before .before .args .bytes .now) (sym (n .ensures) ∙ c .if1 .taken) .rows-are)
 
 -- src/lib.rt:90:5
+-- the field is not empty
+given : (c : tie.Else1) → let b = c .before .before .before .args .bytes .now in MaskIn b 4 (numberAt b 15) (numberAt b 17)
+given c = mask-given (c .before .before .before .args .bytes .now) (λ e. c .if1 .left (c .before .number-at .ensures ∙ e))
+
 number-at-requires-2 : tie.Need-number-at-requires-2
-number-at-requires-2 c κs = search needs
+number-at-requires-2 c κs = omega (arith, given c .due-is)
 
 -- src/lib.rt:90:5
 cast-result : tie.Need-cast-result
@@ -23,7 +31,7 @@ cast-result c = search needs
 
 -- src/lib.rt:83:1
 returns-2 : tie.Need-returns-2
-returns-2 c = search needs
+returns-2 c = c .number-at2 .ensures ∙ sym (given (c .before) .rows-are)
 
 pub mask-rows-spec : {M : Type 1} → statement M
 mask-rows-spec =

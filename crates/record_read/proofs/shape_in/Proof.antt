@@ -41,7 +41,7 @@ mask-columns-requires c κs = search needs
 
 -- src/lib.rt:104:1
 returns : tie.Need-returns
-returns c = search needs
+returns c = cc
 
 pub shape-in-spec : {M : Type 1} → statement M
 shape-in-spec =

@@ -1,3 +1,13 @@
+use Prim.Native.Nat.{_+_, _*_, _-_, _≤_, _<_}
+use mathlib.Core.Path.{_≡_, refl, sym, ap, _∙_}
+use native.Mathlib.Omega.{arith}
+use mathlib.Core.List.{List, [], _∷_}
+use lib.ListN.{length, getD, drop}
+use lib.Dec.{ltb}
+use Rattle.lists.proofs.Stores.{Stored, stored-none, stored-more}
+use Rattle.record_format.specs.Fields.{numberAt, numbersAt, cycleTag, sizeTag, maskTag, rowTag, endTag}
+use Rattle.record_format.specs.Reading.{cycleIn, rowsIn, columnsIn, maskDue, shapeIn, rowAt, endAt, fieldRules, maskValueRules, maskFieldRules, endFieldRules}
+use Rattle.record_format.proofs.FieldRead.{FieldAt, field-clear, length-numbers-at, getD-numbers-at, numbers-at-last}
 use borrow.Author.Needs.{needs}
 use Rattle.record_read.proofs.store_numbers.Statement.{statement}
 use Rattle.record_read.proofs.store_numbers.Tie as tie
@@ -6,14 +16,15 @@ use Rattle.record_read.proofs.store_numbers.Lts as lts
 use Rattle.record_format.proofs.number_at.Reads as number-at-reads
 
 abbrev Inv-loop : tie.InvT-loop
-Inv-loop bytes at readings₀ start n k₀ readings k = ?
+Inv-loop bytes at readings₀ start n k₀ readings k = (k ≤ n) × Stored readings₀ start (numbersAt bytes at k) readings
 
 abbrev μ-loop : tie.MeasureT-loop
-μ-loop bytes at readings₀ start n k₀ readings k = ?
+μ-loop bytes at readings₀ start n k₀ readings k = n - k
 
 -- src/lib.rt:264:5
 loop-holds : tie.Need-loop-holds Inv-loop μ-loop
-loop-holds c = search needs
+unfolding numbersAt
+loop-holds c = (omega arith, stored-none)
 
 -- src/lib.rt:265:53
 mul-number-at : tie.Need-mul-number-at Inv-loop μ-loop
@@ -49,7 +60,13 @@ loop-less c = search needs
 
 -- src/lib.rt:264:5
 loop-again : tie.Need-loop-again Inv-loop μ-loop
-loop-again c = search needs
+loop-again c =
+    let l = c .before .before .loop in
+    let a = c .before .before .before .before .before .args in
+    let bytes = a .bytes .now in
+    (omega arith,
+      rw (numbers-at-last bytes (a .at) (l .k))
+      (stored-more (l .inv .1) (a .start + l .k) (numberAt bytes (a .at + 2 * l .k) ∷ []) (omega (arith, length-numbers-at bytes (a .at) (l .k))) (rw (c .number-at .ensures))))
 
 -- src/lib.rt:259:1
 same-length : tie.Need-same-length Inv-loop μ-loop
@@ -57,7 +74,10 @@ same-length c = search needs
 
 -- src/lib.rt:259:1
 returns : tie.Need-returns Inv-loop μ-loop
-returns c = search needs
+returns c =
+    let l = c .before .loop in
+    let e : l .k ≡ c .before .before .before .before .args .n = omega arith in
+    rw (← e) (l .inv .1 .is)
 
 pub store-numbers-spec : {M : Type 1} → statement M
 store-numbers-spec =
