@@ -55,6 +55,3 @@ module _ (n : ℕ) (readings : List ℕ) where
   -- the fields of the first i rows
   pub length-row-fields : (i m : ℕ) → i ≤ m → length readings ≡ m * n → length (joined (rowField n readings) 0 i) ≡ i * (3 + 2 * n)
   length-row-fields i m h e = length-joined (rowField n readings) (3 + 2 * n) 0 i (λ k g j. length-row-field k m (omega arith) e)
-
-  pub row-fields-last : (i : ℕ) → joined (rowField n readings) 0 (i + 1) ≡ joined (rowField n readings) 0 i ++ rowField n readings i
-  row-fields-last i = rw (add-one i) (joined-last (rowField n readings) 0 i ∙ rw zero-add)

@@ -1,3 +1,4 @@
 pub mod Fields
 pub mod Writable
 pub mod FieldRead
+pub mod Readable

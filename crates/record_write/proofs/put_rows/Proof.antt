@@ -3,9 +3,10 @@ use mathlib.Core.Path.{_≡_, refl, ap, sym, _∙_}
 use native.Mathlib.Omega.{arith}
 use lib.ListN.{length, take, drop, length-take, length-drop}
 use Rattle.lists.specs.Joined.{joined}
+use Rattle.lists.proofs.Joined.{joined-more}
 use Rattle.lists.proofs.Stores.{Stored, stored, stored-none, stored-more}
 use Rattle.record_format.specs.Record.{rowOf, rowField}
-use Rattle.record_format.proofs.Fields.{part-end, length-row-fields, row-fields-last}
+use Rattle.record_format.proofs.Fields.{part-end, length-row-fields}
 use borrow.Author.Needs.{needs}
 use Rattle.record_write.proofs.put_rows.Statement.{statement}
 use Rattle.record_write.proofs.put_rows.Tie as tie
@@ -89,7 +90,7 @@ loop-again c =
     let next : l .at ≡ 19 + length (joined (rowField (a .columns) (a .readings .now)) 0 (l .i)) =
     omega (arith, length-row-fields (a .columns) (a .readings .now) (l .i) (a .rows) (omega arith) (omega arith)) in
     (omega arith, omega arith, omega arith,
-      rw (row-fields-last (a .columns) (a .readings .now) (l .i)) (stored-more (l .inv .3) (l .at) (rowField (a .columns) (a .readings .now) (l .i)) next (rw row-is at (c .before .before .put-row .ensures))))
+      rw (joined-more (rowField (a .columns) (a .readings .now)) (l .i)) (stored-more (l .inv .3) (l .at) (rowField (a .columns) (a .readings .now) (l .i)) next (rw row-is at (c .before .before .put-row .ensures))))
 
 -- src/lib.rt:95:1
 same-length : tie.Need-same-length Inv-loop μ-loop
