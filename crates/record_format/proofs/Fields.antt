@@ -9,8 +9,10 @@ use lib.ListN.{length, take, drop, getD, length-append, length-take, length-drop
 use lib.Seq.{take-suc}
 use Rattle.lists.specs.Joined.{joined}
 use Rattle.lists.proofs.Joined.{length-joined, joined-last}
-use Rattle.record_format.specs.Fields.{number, numbers, field}
-use Rattle.record_format.specs.Record.{rowOf, rowField}
+use Rattle.record_format.specs.Fields.{rowTag, endTag, number, numbers, field}
+use Rattle.shape.specs.declared.Shape.{Shape}
+use Rattle.shape.specs.Rules.{area}
+use Rattle.record_format.specs.Record.{rowOf, rowField, recordBytes, recordLength}
 
 pub length-number : (x : ℕ) → length (number x) ≡ 2
 unfolding number
@@ -50,8 +52,15 @@ module _ (n : ℕ) (readings : List ℕ) where
   length-row i m h e = simp (length-take, length-drop) (omega (arith, part-end i m n h))
 
   pub length-row-field : (i m : ℕ) → i < m → length readings ≡ m * n → length (rowField n readings i) ≡ 3 + 2 * n
-  length-row-field i m h e = omega (arith, length-field 4 (numbers (rowOf n readings i)), length-numbers (rowOf n readings i), length-row i m h e)
+  length-row-field i m h e = omega (arith, length-field rowTag (numbers (rowOf n readings i)), length-numbers (rowOf n readings i), length-row i m h e)
 
   -- the fields of the first i rows
   pub length-row-fields : (i m : ℕ) → i ≤ m → length readings ≡ m * n → length (joined (rowField n readings) 0 i) ≡ i * (3 + 2 * n)
   length-row-fields i m h e = length-joined (rowField n readings) (3 + 2 * n) 0 i (λ k g j. length-row-field k m (omega arith) e)
+
+-- "Its length .. is 22 + M·(3 + 2N)"
+pub length-record : (s : Shape) (readings : List ℕ) → length readings ≡ area s → length (recordBytes s readings) ≡ recordLength s
+unfolding recordBytes recordLength field numbers number
+length-record s readings e =
+    let rows = joined (rowField (s .columns) readings) 0 (s .rows) in
+    omega (arith, length-append rows (field endTag []), length-row-fields (s .columns) readings (s .rows) (s .rows) (omega arith) e)

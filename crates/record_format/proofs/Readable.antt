@@ -10,7 +10,7 @@ use lib.Dec.{ltb}
 use lib.ListN.{length}
 use Rattle.lists.specs.First.{firstBad}
 use Rattle.lists.specs.Joined.{joined}
-use Rattle.lists.proofs.Joined.{joined-last, each-of-joined, each-in-joined}
+use Rattle.lists.proofs.Joined.{length-joined, each-of-joined, each-in-joined}
 use Rattle.refusal.specs.Limits.{longestCycle}
 use Rattle.refusal.specs.Outcome.{Rule, rule, Clear}
 use Rattle.refusal.proofs.Outcome.{clear-join, clear-split}
@@ -18,7 +18,7 @@ use Rattle.cycle.specs.Calls.{cycleRules, readingRule}
 use Rattle.cycle.specs.Distance.{isReading}
 use Rattle.shape.specs.Rules.{sizeRules, maskRules, reflectionRules, shapeRules, area, bufferRule}
 use Rattle.record_format.specs.Fields.{cycleTag, sizeTag, maskTag, rowTag, endTag}
-use Rattle.record_format.specs.Reading.{cycleIn, rowsIn, columnsIn, maskDue, shapeIn, rowAt, endAt, rowIn, placedAfter, fieldRules, cycleFieldRules, sizeFieldRules, maskValueRules, maskFieldRules, rowFieldRules, endFieldRules, bodyRules, readRules}
+use Rattle.record_format.specs.Reading.{cycleIn, rowsIn, columnsIn, maskDue, shapeIn, rowAt, endAt, rowIn, imageIn, placedAfter, fieldRules, cycleFieldRules, sizeFieldRules, maskValueRules, maskFieldRules, rowFieldRules, endFieldRules, bodyRules, readRules}
 use Rattle.record_format.proofs.FieldRead.{FieldAt, field-clear, clear-field, length-numbers-at}
 
 abbrev Quiet : Rule → Type 0
@@ -33,6 +33,10 @@ module _ (bytes : List ℕ) where
   pub length-row-in : (i : ℕ) → length (rowIn bytes i) ≡ columnsIn bytes
   unfolding rowIn
   length-row-in i = length-numbers-at bytes (rowAt bytes i + 3) (columnsIn bytes)
+
+  pub length-image : length (imageIn bytes) ≡ area (shapeIn bytes)
+  unfolding imageIn
+  length-image = length-joined (rowIn bytes) (columnsIn bytes) 0 (rowsIn bytes) (λ i h g. length-row-in i)
 
   pub row-next : (i : ℕ) → rowAt bytes (i + 1) ≡ rowAt bytes i + (3 + 2 * columnsIn bytes)
   unfolding rowAt
