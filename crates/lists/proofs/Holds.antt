@@ -1,9 +1,9 @@
 -- A list that holds another at a place, and how parts that follow each other are taken apart and put together. Assumes nothing.
 use Prim.Native.Nat.{ℕ, zero, suc, _+_, _-_, _*_, _≤_, _<_}
-use mathlib.Core.Path.{_≡_, refl, ap, sym, subst, _∙_}
+use mathlib.Core.Path.{_≡_, refl, ap, sym, _∙_}
 use mathlib.Core.List.{List, [], _∷_, _++_, append-assoc, append-nil}
 use native.Mathlib.Omega.{arith}
-use native.Mathlib.Nat.{add-zero, zero-add, zero-mul, suc-mul, suc-add, add-suc}
+use native.Mathlib.Nat.{add-zero, zero-add, zero-mul, suc-mul}
 use lib.ListN.{length, take, drop, getD, length-append, length-drop}
 use lib.Seq.{take-at, drop-append-seam, drop-drop, drop-cons, getD-drop}
 use Rattle.lists.specs.Joined.{joined}

@@ -10,22 +10,22 @@ use Rattle.refusal.specs.Outcome.Outcome.{accepted, refused}
 use Rattle.refusal.proofs.Outcome.{accepted-clear, clear-accepted}
 use Rattle.shape.specs.declared.Shape.{Shape}
 use Rattle.shape.specs.Rules.{area}
+use Rattle.record_format.specs.Fields.{Bytes}
 use Rattle.record_format.specs.Record.{recordBytes, recordLength, writeRules, writeCall}
 use Rattle.record_format.specs.Reading.{maskSaid, shapeIn, imageIn, readRules, readCall}
 use Rattle.record_format.proofs.Fields.{length-record}
 use Rattle.record_format.proofs.Writable.{Writable, writable}
-use Rattle.record_format.proofs.Readable.{Readable, readable, length-image}
-use Rattle.record_format.proofs.Holds.{Bytes}
+use Rattle.record_format.proofs.Readable.{readable, length-image}
 use Rattle.record_format.proofs.Written.{image-back, written-read, written-short}
 use Rattle.record_format.proofs.Reread.{bytes-back, read-written}
 use Rattle.record.specs.declared.ReadAnswer.{ReadAnswer}
 use Rattle.record.specs.declared.WriteAnswer.{WriteAnswer}
 use Rattle.record.specs.declared.ReadAnswer.the-variants.{Read}
 use Rattle.record.specs.declared.WriteAnswer.the-variants.{Written}
-use Rattle.record.specs.declared.ReadAnswer.the-variants as reads
-use Rattle.record.specs.declared.WriteAnswer.the-variants as writes
 use Rattle.record.specs.Calls.{readTold, writeTold, Reads, Writes}
 use Rattle.record.proofs.Left.{left-accepted, left-refused}
+use Rattle.record.specs.declared.ReadAnswer.the-variants as reads
+use Rattle.record.specs.declared.WriteAnswer.the-variants as writes
 
 -- an answer is told by its outcome
 told-read : (r : ReadAnswer) (s : Shape) → readTold r ≡ accepted s → r ≡ Read s

@@ -1,10 +1,10 @@
 -- Laws of numbers and fields as they are read. Assumes nothing.
 use Prim.Native.Nat.{ℕ, _+_, _-_, _*_, _≤_, _<_}
-use mathlib.Core.Path.{_≡_, refl, ap, sym, _∙_}
+use mathlib.Core.Path.{_≡_, sym, _∙_}
 use mathlib.Core.List.{List, [], _∷_, _++_}
 use native.Mathlib.Omega.{arith}
 use native.Mathlib.Nat.{zero-add}
-use borrow.Author.Tests.{lt-ltb, le-ltb, eq-eqb, ne-eqb, ltb-false, eqb-true, not-false}
+use borrow.Author.Tests.{le-ltb, eq-eqb, ne-eqb, ltb-false, eqb-true, not-false}
 use lib.ListN.{length, getD}
 use Rattle.lists.proofs.Tabulate.{length-tabulate, getD-tabulate, tabulate-append}
 use Rattle.refusal.specs.Outcome.{Clear}
@@ -43,10 +43,13 @@ module _ (bytes : List ℕ) (at tag due : ℕ) where
       }
 
   pub clear-field : FieldAt bytes at tag due → Clear (fieldRules bytes at tag due)
-  clear-field f =
-      (le-ltb (length bytes - at) 3 (omega (arith, f .whole)),
-        (rw (eq-eqb (getD bytes at 0) tag (f .tag-is)),
-          (rw (eq-eqb (numberAt bytes (at + 1)) due (f .length-is)), (le-ltb (length bytes - (at + 3)) due (omega (arith, f .whole)), tt))))
+  clear-field f = (
+    le-ltb (length bytes - at) 3 (omega (arith, f .whole)),
+    (
+      rw (eq-eqb (getD bytes at 0) tag (f .tag-is)),
+      (rw (eq-eqb (numberAt bytes (at + 1)) due (f .length-is)), (le-ltb (length bytes - (at + 3)) due (omega (arith, f .whole)), tt)),
+    ),
+  )
 
 -- what field 03 holds, empty or with four bytes
 pub record MaskIn (bytes : List ℕ) (due rows columns : ℕ) : Type 0 where

@@ -1,14 +1,14 @@
 -- Laws of numbers and fields as they are written. Assumes nothing.
-use Prim.Native.Nat.{ℕ, suc, _+_, _*_, _≤_, _<_}
-use mathlib.Core.Path.{_≡_, refl, ap, sym, _∙_}
+use Prim.Native.Nat.{ℕ, _+_, _*_, _≤_, _<_}
+use mathlib.Core.Path.{_≡_, refl, ap}
 use mathlib.Core.List.{List, [], _∷_, _++_, append-assoc, append-nil}
 use native.Mathlib.Omega.{arith}
-use native.Mathlib.Nat.{zero-add, mul-le-mul-right}
+use native.Mathlib.Nat.{mul-le-mul-right}
 use native.Mathlib.Numerals.{add-one}
-use lib.ListN.{length, take, drop, getD, length-append, length-take, length-drop}
+use lib.ListN.{length, take, getD, length-append, length-take, length-drop}
 use lib.Seq.{take-suc}
 use Rattle.lists.specs.Joined.{joined}
-use Rattle.lists.proofs.Joined.{length-joined, joined-last}
+use Rattle.lists.proofs.Joined.{length-joined}
 use Rattle.record_format.specs.Fields.{rowTag, endTag, number, numbers, field}
 use Rattle.shape.specs.declared.Shape.{Shape}
 use Rattle.shape.specs.Rules.{area}

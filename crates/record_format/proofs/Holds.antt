@@ -7,13 +7,9 @@ use native.Mathlib.Numerals.{add-one}
 use lib.ListN.{length, getD}
 use lib.Seq.{ext-getD}
 use Rattle.lists.proofs.Holds.{Holds, holds-none, holds-one, holds-head, holds-room, holds-first, holds-next, holds-join}
-use Rattle.record_format.specs.Fields.{number, numbers, field, numberAt, numbersAt}
+use Rattle.record_format.specs.Fields.{Bytes, number, numbers, field, numberAt, numbersAt}
 use Rattle.record_format.proofs.Fields.{length-number, length-numbers, numbers-append}
 use Rattle.record_format.proofs.FieldRead.{FieldAt, length-numbers-at, getD-numbers-at, numbers-at-last}
-
--- each element is a byte
-unfoldable pub Bytes : List ℕ → Type 0
-Bytes b = (k : ℕ) → getD b k 0 < 256
 
 -- From what is written to what is read.
 
@@ -41,12 +37,14 @@ pub holds-field : {b : List ℕ} {at : ℕ} (tag : ℕ) (body : List ℕ) (n : �
 unfolding field
 holds-field {b} {at} tag body n e h =
     let tail = holds-next (tag ∷ []) (number (length body) ++ body) (at + 1) refl h in
-    let rest = holds-next (number (length body)) body (at + 3) (omega (arith, length-number (length body))) tail in
-    (record {
-      tag-is = holds-head tag (number (length body) ++ body) 0 h;
-      length-is = holds-number (length body) (holds-first (number (length body)) body tail) ∙ e;
-      whole = omega (arith, holds-room body rest);
-    }, rest)
+    let rest = holds-next (number (length body)) body (at + 3) (omega (arith, length-number (length body))) tail in (
+      record {
+        tag-is = holds-head tag (number (length body) ++ body) 0 h;
+        length-is = holds-number (length body) (holds-first (number (length body)) body tail) ∙ e;
+        whole = omega (arith, holds-room body rest);
+      },
+      rest,
+    )
 
 -- From what is read to what is written, where each element is a byte.
 

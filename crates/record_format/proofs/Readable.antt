@@ -116,11 +116,11 @@ module _ (bytes : List ℕ) (room : ℕ) where
       let trailing : List Rule = rule (ltb (endAt bytes + 3) (length bytes)) 13 (endAt bytes + 3) ∷ [] in
       let rows = each-of-joined (rowFieldRules bytes) Quiet 0 (rowsIn bytes) (λ k h g. clear-row bytes k (r .rows k (omega arith))) in
       clear-join (cycleFieldRules bytes) (sizeFieldRules bytes ++ (maskFieldRules bytes room ++ bodyRules bytes))
-        (clear-join (fieldRules bytes 0 cycleTag 2) (cycleRules longestCycle (s .cycle)) (clear-field bytes 0 cycleTag 2 (r .cycle)) (one .0))
-        (clear-join (sizeFieldRules bytes) (maskFieldRules bytes room ++ bodyRules bytes)
-          (clear-join (fieldRules bytes 5 sizeTag 4) (sizeRules (s .rows) (s .columns)) (clear-field bytes 5 sizeTag 4 (r .size)) (two .0))
-          (clear-join (maskFieldRules bytes room) (bodyRules bytes)
-            (clear-join (fieldRules bytes 12 maskTag (maskDue bytes)) (maskValueRules s room) (clear-field bytes 12 maskTag (maskDue bytes) (r .mask))
-              (clear-join sides (reflection ++ buffer) (three .0) (clear-join reflection buffer (three .1) (le-ltb room (area s) (r .buffer), tt))))
-            (clear-join (joined (rowFieldRules bytes) 0 (rowsIn bytes)) (endFieldRules bytes) rows
-              (clear-join (fieldRules bytes (endAt bytes) endTag 0) trailing (clear-field bytes (endAt bytes) endTag 0 (r .end)) (le-ltb (endAt bytes + 3) (length bytes) (r .last), tt)))))
+      (clear-join (fieldRules bytes 0 cycleTag 2) (cycleRules longestCycle (s .cycle)) (clear-field bytes 0 cycleTag 2 (r .cycle)) (one .0))
+      (clear-join (sizeFieldRules bytes) (maskFieldRules bytes room ++ bodyRules bytes)
+      (clear-join (fieldRules bytes 5 sizeTag 4) (sizeRules (s .rows) (s .columns)) (clear-field bytes 5 sizeTag 4 (r .size)) (two .0))
+      (clear-join (maskFieldRules bytes room) (bodyRules bytes)
+      (clear-join (fieldRules bytes 12 maskTag (maskDue bytes)) (maskValueRules s room) (clear-field bytes 12 maskTag (maskDue bytes) (r .mask))
+      (clear-join sides (reflection ++ buffer) (three .0) (clear-join reflection buffer (three .1) (le-ltb room (area s) (r .buffer), tt))))
+      (clear-join (joined (rowFieldRules bytes) 0 (rowsIn bytes)) (endFieldRules bytes) rows
+      (clear-join (fieldRules bytes (endAt bytes) endTag 0) trailing (clear-field bytes (endAt bytes) endTag 0 (r .end)) (le-ltb (endAt bytes + 3) (length bytes) (r .last), tt)))))

@@ -1,32 +1,29 @@
 -- A record that was read, with four bytes in its mask field, is written again as it was. Assumes nothing.
 use Prim.Native.Nat.{ℕ, _+_, _*_, _≤_, _<_}
-use mathlib.Core.Path.{_≡_, refl, ap, sym, subst, _∙_}
+use mathlib.Core.Path.{_≡_, refl, ap, sym, _∙_}
 use mathlib.Core.Bool.{true}
 use mathlib.Core.List.{List, [], _∷_, _++_}
 use native.Mathlib.Omega.{arith}
 use native.Mathlib.Nat.{zero-add}
 use borrow.Author.Tests.{eq-eqb, le-ltb}
-use lib.ListN.{length, take, drop}
+use lib.ListN.{length}
 use Rattle.lists.specs.First.{firstBad}
-use Rattle.lists.specs.Members.{Each}
 use Rattle.lists.specs.Joined.{joined}
 use Rattle.lists.proofs.First.{all-good, good-all}
 use Rattle.lists.proofs.Joined.{each-of-joined}
 use Rattle.lists.proofs.Holds.{Holds, holds-whole, holds-taken, holds-join, holds-none, holds-all, holds-part, parts-hold}
 use Rattle.refusal.specs.Limits.{longestCycle}
-use Rattle.refusal.specs.Outcome.{Clear}
 use Rattle.refusal.specs.Outcome.Outcome.{accepted}
 use Rattle.refusal.proofs.Outcome.{clear-join, clear-accepted}
 use Rattle.cycle.specs.Distance.{isReading}
-use Rattle.shape.specs.declared.Shape.{Shape}
 use Rattle.shape.specs.Rules.{shapeRules, area}
-use Rattle.record_format.specs.Fields.{cycleTag, sizeTag, maskTag, rowTag, endTag, number, numbers, field, numberAt, numbersAt}
+use Rattle.record_format.specs.Fields.{Bytes, cycleTag, sizeTag, maskTag, rowTag, endTag, number, numbers, field, numberAt, numbersAt}
 use Rattle.record_format.specs.Record.{rowOf, rowField, recordBytes, recordLength, callRules, writeRules, writeCall}
-use Rattle.record_format.specs.Reading.{cycleIn, rowsIn, columnsIn, maskSaid, maskDue, maskRowsIn, maskColumnsIn, shapeIn, rowAt, endAt, rowIn, imageIn}
+use Rattle.record_format.specs.Reading.{cycleIn, rowsIn, columnsIn, maskSaid, maskRowsIn, maskColumnsIn, shapeIn, rowAt, endAt, rowIn, imageIn}
 use Rattle.record_format.proofs.Fields.{length-numbers, length-row-field, length-row-fields, length-record}
 use Rattle.record_format.proofs.FieldRead.{FieldAt, MaskIn, mask-given, length-numbers-at}
-use Rattle.record_format.proofs.Readable.{RowIn, Readable, length-row-in, length-image}
-use Rattle.record_format.proofs.Holds.{Bytes, numbers-hold, field-holds}
+use Rattle.record_format.proofs.Readable.{Readable, length-row-in, length-image}
+use Rattle.record_format.proofs.Holds.{numbers-hold, field-holds}
 
 module _ (b : List ℕ) (small : Bytes b) (room : ℕ) (r : Readable b room) (four : maskSaid b ≡ 4) where
   mask-four : MaskIn b 4 (numberAt b 15) (numberAt b 17)

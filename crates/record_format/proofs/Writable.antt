@@ -1,9 +1,9 @@
 -- What it says of the writer's arguments that its tests are clear, and back. Assumes nothing.
 use Prim.Native.Nat.{ℕ, _+_, _*_, _≤_}
+use mathlib.Core.Path.{_≡_}
+use mathlib.Core.List.{List}
 use native.Mathlib.Omega.{arith}
 use native.Mathlib.Nat.{mul-le-mul}
-use mathlib.Core.Path.{_≡_}
-use mathlib.Core.List.{List, []}
 use borrow.Author.Tests.{ltb-false, eqb-true, not-false}
 use lib.ListN.{length}
 use Rattle.lists.specs.First.{firstBad}

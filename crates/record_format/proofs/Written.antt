@@ -6,7 +6,7 @@ use mathlib.Core.List.{List, [], _∷_, _++_}
 use native.Mathlib.Omega.{arith}
 use native.Mathlib.Nat.{zero-add}
 use borrow.Author.Tests.{lt-ltb}
-use lib.ListN.{length, take}
+use lib.ListN.{length}
 use lib.Seq.{take-all}
 use Rattle.lists.specs.First.{firstBad}
 use Rattle.lists.specs.Members.{Each}
@@ -15,7 +15,7 @@ use Rattle.lists.proofs.First.{all-good, good-all}
 use Rattle.lists.proofs.Joined.{joined-cong, joined-parts, each-in-joined}
 use Rattle.lists.proofs.Holds.{Holds, holds-whole, holds-first, holds-next, holds-part}
 use Rattle.refusal.specs.Limits.{longestCycle}
-use Rattle.refusal.specs.Outcome.{Rule, Clear, firstDue}
+use Rattle.refusal.specs.Outcome.{Rule, Clear}
 use Rattle.refusal.specs.Outcome.Outcome.{accepted, refused}
 use Rattle.refusal.proofs.Outcome.{clear-split, clear-accepted, due-refused}
 use Rattle.cycle.specs.Distance.{isReading}
@@ -26,7 +26,6 @@ use Rattle.record_format.specs.Record.{rowOf, rowField, recordBytes, rec
 use Rattle.record_format.specs.Reading.{cycleIn, rowsIn, columnsIn, maskDue, maskRowsIn, maskColumnsIn, shapeIn, rowAt, endAt, rowIn, imageIn, fieldRules, cycleFieldRules, sizeFieldRules, bodyRules, readRules, readCall}
 use Rattle.record_format.proofs.Fields.{length-numbers, length-row, length-row-field, length-row-fields, length-record}
 use Rattle.record_format.proofs.FieldRead.{FieldAt, MaskIn, mask-given}
-use Rattle.record_format.proofs.Writable.{Writable}
 use Rattle.record_format.proofs.Readable.{RowIn, Readable, clear-readable}
 use Rattle.record_format.proofs.Holds.{holds-numbers, holds-field}
 

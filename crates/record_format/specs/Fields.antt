@@ -1,9 +1,13 @@
 -- Document 01, "Bench record": "Fields of a one-byte tag (hexadecimal here), a two-byte length and a body; numbers have their high
 -- byte first, two bytes each."
-use Prim.Native.Nat.{ℕ, _+_, _*_, _/_, _%_}
+use Prim.Native.Nat.{ℕ, _+_, _*_, _/_, _%_, _<_}
 use mathlib.Core.List.{List, [], _∷_, _++_}
 use lib.ListN.{length, getD}
 use Rattle.lists.specs.Tabulate.{tabulate}
+
+-- each element is a byte; past the end of a list, 0 is read
+unfoldable pub Bytes : List ℕ → Type 0
+Bytes bytes = (k : ℕ) → getD bytes k 0 < 256
 
 -- the tags: 01, 02, 03, 04 and FF
 abbrev pub cycleTag : ℕ

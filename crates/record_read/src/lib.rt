@@ -1,11 +1,11 @@
 // The reader's tests, field by field, and the numbers that it reads.
+use cycle::cycle_verdict;
 use record_format::CYCLE_TAG;
 use record_format::END_TAG;
 use record_format::MASK_TAG;
 use record_format::ROW_TAG;
 use record_format::SIZE_TAG;
 use record_format::number_at;
-use cycle::cycle_verdict;
 use refusal::Refusal;
 use refusal::Verdict;
 use refusal::limits::LONGEST_CYCLE;

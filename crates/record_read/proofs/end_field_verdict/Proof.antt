@@ -1,23 +1,18 @@
-use Prim.Native.Nat.{_+_, _*_, _-_, _≤_, _<_}
-use mathlib.Core.Path.{_≡_, refl, sym, ap, _∙_}
-use native.Mathlib.Omega.{arith}
+-- `record_read::end_field_verdict` meets its contract. Assumes nothing.
+use Prim.Native.Nat.{_+_}
+use mathlib.Core.Path.{_≡_, sym, _∙_}
 use mathlib.Core.List.{List, [], _∷_}
-use lib.ListN.{length, getD, drop}
-use lib.Dec.{ltb}
-use Rattle.refusal.specs.Outcome.{Rule, rule, Clear, firstDue, verdict}
-use Rattle.refusal.specs.Outcome.Outcome.{accepted, refused}
-use Rattle.refusal.proofs.Outcome.{tests, passed-clear, passed-on, refused-before}
-use Rattle.record_format.specs.Fields.{numberAt, numbersAt, cycleTag, sizeTag, maskTag, rowTag, endTag}
-use Rattle.record_format.specs.Reading.{cycleIn, rowsIn, columnsIn, maskDue, shapeIn, rowAt, endAt, fieldRules, maskValueRules, maskFieldRules, endFieldRules}
-use Rattle.record_format.proofs.FieldRead.{FieldAt, field-clear, length-numbers-at, getD-numbers-at, numbers-at-last}
 use borrow.Author.Needs.{needs}
+use lib.ListN.{length}
+use lib.Dec.{ltb}
+use Rattle.refusal.specs.Outcome.{Rule, rule, firstDue}
+use Rattle.refusal.specs.Outcome.Outcome.{accepted, refused}
+use Rattle.refusal.proofs.Outcome.{tests, passed-on, refused-before}
+use Rattle.record_format.specs.Fields.{endTag}
+use Rattle.record_format.specs.Reading.{fieldRules, endFieldRules}
 use Rattle.record_read.proofs.end_field_verdict.Statement.{statement}
 use Rattle.record_read.proofs.end_field_verdict.Tie as tie
-use Rattle.record_read.proofs.end_field_verdict.Reads as reads
-use Rattle.record_read.proofs.end_field_verdict.Lts as lts
-use Rattle.record_read.proofs.field_verdict.Reads as field-verdict-reads
 
--- src/lib.rt:215:11
 -- the last test, which follows those of the field
 abbrev trailing : tie.After-enum-told → List Rule
 trailing c = let a = c .before .before .before .before .args in rule (ltb (a .at + 3) (length (a .bytes .now))) 13 (a .at + 3) ∷ []
@@ -30,23 +25,18 @@ on c =
 field-verdict-requires : tie.Need-field-verdict-requires
 field-verdict-requires c κs = search needs
 
--- src/lib.rt:216:26
 enum-known-f : tie.Need-enum-known-f
 enum-known-f c = search needs
 
--- src/lib.rt:218:16
 enum-told : tie.Need-enum-told
 enum-told c = search needs
 
--- src/lib.rt:218:16
 add-if1 : tie.Need-add-if1
 add-if1 c = search needs
 
--- src/lib.rt:219:59
 add-t9 : tie.Need-add-t9
 add-t9 c = search needs
 
--- src/lib.rt:219:17
 returns : tie.Need-returns
 unfolding firstDue
 returns c =
@@ -54,13 +44,11 @@ returns c =
     let due : refused 13 (at + 3) ≡ firstDue (trailing (c .before)) (tt {0}) = search tests in
     due ∙ sym (on (c .before))
 
--- src/lib.rt:211:1
 returns-2 : tie.Need-returns-2
 returns-2 c =
     let s = c .before .before .before .before .before in
     rw (← (s .pre .0)) (sym (refused-before (fieldRules (s .args .bytes .now) (s .args .at) endTag 0) (c .before .before .before .field-verdict .ensures) tt _ (c .before .f .given .1)))
 
--- src/lib.rt:211:1
 returns-3 : tie.Need-returns-3
 unfolding firstDue
 returns-3 c =

@@ -1,22 +1,17 @@
-use Prim.Native.Nat.{_+_, _*_, _-_, _≤_, _<_}
-use mathlib.Core.Path.{_≡_, refl, sym, ap, _∙_}
+-- `record_read::first_bad` meets its contract. Assumes nothing.
+use Prim.Native.Nat.{_+_, _-_, _≤_}
+use mathlib.Core.Path.{_≡_}
 use native.Mathlib.Omega.{arith}
-use mathlib.Core.List.{List, [], _∷_}
-use lib.ListN.{length, getD, drop}
-use lib.Dec.{ltb}
 use borrow.Author.Tests.{lt-ltb, le-ltb}
+use borrow.Author.Needs.{needs}
+use lib.ListN.{getD, drop}
 use Rattle.lists.specs.First.{firstBad}
 use Rattle.lists.proofs.First.{first-here, first-later, first-none}
 use Rattle.cycle.specs.Distance.{isReading}
-use Rattle.record_format.specs.Fields.{numberAt, numbersAt, cycleTag, sizeTag, maskTag, rowTag, endTag}
-use Rattle.record_format.specs.Reading.{cycleIn, rowsIn, columnsIn, maskDue, shapeIn, rowAt, endAt, fieldRules, maskValueRules, maskFieldRules, endFieldRules}
-use Rattle.record_format.proofs.FieldRead.{FieldAt, field-clear, length-numbers-at, getD-numbers-at, numbers-at-last}
-use borrow.Author.Needs.{needs}
+use Rattle.record_format.specs.Fields.{numbersAt}
+use Rattle.record_format.proofs.FieldRead.{length-numbers-at, getD-numbers-at}
 use Rattle.record_read.proofs.first_bad.Statement.{statement}
 use Rattle.record_read.proofs.first_bad.Tie as tie
-use Rattle.record_read.proofs.first_bad.Reads as reads
-use Rattle.record_read.proofs.first_bad.Lts as lts
-use Rattle.record_format.proofs.number_at.Reads as number-at-reads
 
 abbrev Inv-loop : tie.InvT-loop
 Inv-loop bytes at n cycle k₀ k =
@@ -25,27 +20,21 @@ Inv-loop bytes at n cycle k₀ k =
 abbrev μ-loop : tie.MeasureT-loop
 μ-loop bytes at n cycle k₀ k = n - k
 
--- src/lib.rt:161:5
 loop-holds : tie.Need-loop-holds Inv-loop μ-loop
 loop-holds c = search needs
 
--- src/lib.rt:162:43
 mul-number-at : tie.Need-mul-number-at Inv-loop μ-loop
 mul-number-at c = search needs
 
--- src/lib.rt:162:38
 add-number-at : tie.Need-add-number-at Inv-loop μ-loop
 add-number-at c = search needs
 
--- src/lib.rt:162:21
 number-at-requires : tie.Need-number-at-requires Inv-loop μ-loop
 number-at-requires c κs = search needs
 
--- src/lib.rt:162:21
 cast-if1 : tie.Need-cast-if1 Inv-loop μ-loop
 cast-if1 c = search needs
 
--- src/lib.rt:163:13
 returns : tie.Need-returns Inv-loop μ-loop
 returns c =
     let a = c .before .before .before .before .before .args in
@@ -57,15 +46,12 @@ returns c =
     let t = c .if1 .taken in
     omega (arith, first-here (isReading (a .cycle)) 0 xs k (omega arith) (le-ltb (getD xs k 0) (a .cycle) (omega arith)))
 
--- src/lib.rt:165:9
 add-k : tie.Need-add-k Inv-loop μ-loop
 add-k c = search needs
 
--- src/lib.rt:161:5
 loop-less : tie.Need-loop-less Inv-loop μ-loop
 loop-less c = search needs
 
--- src/lib.rt:161:5
 loop-again : tie.Need-loop-again Inv-loop μ-loop
 loop-again c =
     let a = c .before .before .before .before .before .args in
@@ -77,7 +63,6 @@ loop-again c =
     let t = c .if1 .left in
     omega (arith, first-later (isReading (a .cycle)) 0 xs k (omega arith) (lt-ltb (getD xs k 0) (a .cycle) (omega arith)))
 
--- src/lib.rt:156:1
 returns-2 : tie.Need-returns-2 Inv-loop μ-loop
 returns-2 c =
     let a = c .before .before .before .args in

@@ -1,51 +1,34 @@
-use Prim.Native.Nat.{_+_, _*_, _-_, _≤_, _<_}
-use mathlib.Core.Path.{_≡_, refl, sym, ap, _∙_}
+-- `record_read::mask_field_verdict` meets its contract. Assumes nothing.
+use mathlib.Core.Path.{_≡_, sym, _∙_}
 use native.Mathlib.Omega.{arith}
-use mathlib.Core.List.{List, [], _∷_}
-use lib.ListN.{length, getD, drop}
-use lib.Dec.{ltb}
-use Rattle.refusal.specs.Outcome.{Rule, rule, Clear, firstDue, verdict}
-use Rattle.refusal.specs.Outcome.Outcome.{refused}
-use Rattle.refusal.proofs.Outcome.{tests, passed-clear, passed-on, refused-before}
-use Rattle.record_format.specs.Fields.{numberAt, numbersAt, cycleTag, sizeTag, maskTag, rowTag, endTag}
-use Rattle.record_format.specs.Reading.{cycleIn, rowsIn, columnsIn, maskDue, shapeIn, rowAt, endAt, fieldRules, maskValueRules, maskFieldRules, endFieldRules}
-use Rattle.record_format.proofs.FieldRead.{FieldAt, field-clear, length-numbers-at, getD-numbers-at, numbers-at-last}
 use borrow.Author.Needs.{needs}
+use Rattle.refusal.specs.Outcome.{firstDue, verdict}
+use Rattle.refusal.proofs.Outcome.{tests, passed-clear, passed-on, refused-before}
+use Rattle.record_format.specs.Fields.{maskTag}
+use Rattle.record_format.specs.Reading.{maskDue, shapeIn, fieldRules, maskValueRules}
+use Rattle.record_format.proofs.FieldRead.{FieldAt, field-clear}
 use Rattle.record_read.proofs.mask_field_verdict.Statement.{statement}
 use Rattle.record_read.proofs.mask_field_verdict.Tie as tie
-use Rattle.record_read.proofs.mask_field_verdict.Reads as reads
-use Rattle.record_read.proofs.mask_field_verdict.Lts as lts
-use Rattle.record_read.proofs.field_verdict.Reads as field-verdict-reads
-use Rattle.record_read.proofs.mask_due.Reads as mask-due-reads
-use Rattle.record_read.proofs.mask_values_verdict.Reads as mask-values-verdict-reads
-use Rattle.record_read.proofs.shape_in.Reads as shape-in-reads
 
--- src/lib.rt:146:8
 sub-if1 : tie.Need-sub-if1
 sub-if1 c = search needs
 
--- src/lib.rt:147:9
 returns : tie.Need-returns
 unfolding firstDue
 returns c = search tests
 
--- src/lib.rt:149:46
 mask-due-requires : tie.Need-mask-due-requires
 mask-due-requires c κs = search needs
 
--- src/lib.rt:149:11
 field-verdict-requires : tie.Need-field-verdict-requires
 field-verdict-requires c κs = search needs
 
--- src/lib.rt:150:26
 enum-known-f : tie.Need-enum-known-f
 enum-known-f c = search needs
 
--- src/lib.rt:151:48
 enum-told : tie.Need-enum-told
 enum-told c = search needs
 
--- src/lib.rt:151:48
 -- what the tests of the field said, with the length that is due
 said : (c : tie.After-field-verdict) → let bytes = c .before .before .before .before .args .bytes .now in verdict (c .field-verdict .result) ≡ firstDue (fieldRules bytes 12 maskTag (maskDue bytes)) tt
 said c = rw (c .before .mask-due .ensures) at (c .field-verdict .ensures)
@@ -58,17 +41,14 @@ passed c =
 shape-in-requires : tie.Need-shape-in-requires
 shape-in-requires c κs = omega (arith, passed c .whole)
 
--- src/lib.rt:151:28
 mask-values-verdict-requires : tie.Need-mask-values-verdict-requires
 mask-values-verdict-requires c κs = let p = c .before .before .before .before .before .before .before .pre in rw (c .shape-in .ensures) (p .1, p .2)
 
--- src/lib.rt:142:1
 returns-2 : tie.Need-returns-2
 returns-2 c =
     let bytes = c .before .before .before .before .before .before .before .args .bytes .now in
     sym (refused-before (fieldRules bytes 12 maskTag (maskDue bytes)) (said (c .before .before .before)) tt _ (c .before .f .given .1))
 
--- src/lib.rt:142:1
 returns-3 : tie.Need-returns-3
 returns-3 c =
     let k = c .before .before in

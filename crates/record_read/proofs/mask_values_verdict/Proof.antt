@@ -1,26 +1,17 @@
-use Prim.Native.Nat.{_+_, _*_, _-_, _≤_, _<_}
-use mathlib.Core.Path.{_≡_, refl, sym, ap, _∙_}
+-- `record_read::mask_values_verdict` meets its contract. Assumes nothing.
+use mathlib.Core.Path.{_≡_, sym, _∙_}
+use mathlib.Core.List.{List, [], _∷_, _++_}
 use native.Mathlib.Omega.{arith}
 use native.Mathlib.Nat.{mul-le-mul}
-use mathlib.Core.List.{List, [], _∷_, _++_}
-use lib.ListN.{length, getD, drop}
-use lib.Dec.{ltb}
-use Rattle.refusal.specs.Outcome.{Rule, rule, Clear, firstDue, verdict}
-use Rattle.refusal.specs.Outcome.Outcome.{accepted, refused}
-use Rattle.refusal.proofs.Outcome.{tests, passed-clear, passed-on, refused-before}
-use Rattle.shape.specs.Rules.{maskRules, reflectionRules, area, bufferRule}
-use Rattle.record_format.specs.Fields.{numberAt, numbersAt, cycleTag, sizeTag, maskTag, rowTag, endTag}
-use Rattle.record_format.specs.Reading.{cycleIn, rowsIn, columnsIn, maskDue, shapeIn, rowAt, endAt, fieldRules, maskValueRules, maskFieldRules, endFieldRules}
-use Rattle.record_format.proofs.FieldRead.{FieldAt, field-clear, length-numbers-at, getD-numbers-at, numbers-at-last}
 use borrow.Author.Needs.{needs}
+use Rattle.refusal.specs.Outcome.{Rule, firstDue}
+use Rattle.refusal.specs.Outcome.Outcome.{accepted, refused}
+use Rattle.refusal.proofs.Outcome.{tests, passed-on, refused-before}
+use Rattle.shape.specs.Rules.{maskRules, reflectionRules, area, bufferRule}
+use Rattle.record_format.specs.Reading.{maskValueRules}
 use Rattle.record_read.proofs.mask_values_verdict.Statement.{statement}
 use Rattle.record_read.proofs.mask_values_verdict.Tie as tie
-use Rattle.record_read.proofs.mask_values_verdict.Reads as reads
-use Rattle.record_read.proofs.mask_values_verdict.Lts as lts
-use Rattle.shape.proofs.mask_verdict.Reads as mask-verdict-reads
-use Rattle.shape.proofs.reflection_verdict.Reads as reflection-verdict-reads
 
--- src/lib.rt:122:11
 -- the tests that passed, and those that follow
 abbrev buffer : tie.Start → List Rule
 buffer c = bufferRule (area (c .args .shape)) (c .args .room) ∷ []
@@ -39,54 +30,43 @@ passed-both c =
 mask-verdict-requires : tie.Need-mask-verdict-requires
 mask-verdict-requires c κs = search needs
 
--- src/lib.rt:123:26
 enum-known-f : tie.Need-enum-known-f
 enum-known-f c = search needs
 
--- src/lib.rt:124:34
 enum-told : tie.Need-enum-told
 enum-told c = search needs
 
--- src/lib.rt:124:34
 reflection-verdict-requires : tie.Need-reflection-verdict-requires
 reflection-verdict-requires c κs = search needs
 
--- src/lib.rt:130:30
 enum-known-f-2 : tie.Need-enum-known-f-2
 enum-known-f-2 c = search needs
 
--- src/lib.rt:132:27
 enum-told-2 : tie.Need-enum-told-2
 enum-told-2 c = search needs
 
--- src/lib.rt:132:27
 cast-if1 : tie.Need-cast-if1
 cast-if1 c = search needs
 
--- src/lib.rt:132:49
 cast-if1-2 : tie.Need-cast-if1-2
 cast-if1-2 c = search needs
 
--- src/lib.rt:132:27
 mul-if1 : tie.Need-mul-if1
 mul-if1 c =
     let s = c .before .before .before .before .before .before .before .before in
     omega (arith, mul-le-mul (s .pre .0) (s .pre .1))
 
--- src/lib.rt:133:21
 returns : tie.Need-returns
 unfolding firstDue
 returns c =
     let due : refused 7 0 ≡ firstDue (buffer (c .before .before .before .before .before .before .before .before .before)) (tt {0}) = search tests in
     due ∙ sym (passed-both (c .before .before .before))
 
--- src/lib.rt:118:1
 returns-2 : tie.Need-returns-2
 returns-2 c =
     let s = c .before .before .before .before .args .shape in
     sym (refused-before (maskRules (s .«mask_rows») (s .«mask_columns»)) (c .before .before .before .mask-verdict .ensures) tt _ (c .before .f .given .1))
 
--- src/lib.rt:118:1
 returns-3 : tie.Need-returns-3
 returns-3 c =
     let s = c .before .before .before .before .before .before .before .args .shape in
@@ -94,7 +74,6 @@ returns-3 c =
     (passed-mask (c .before .before .before .before) _
     ∙ refused-before (reflectionRules (s .rows) (s .columns) (s .«mask_rows») (s .«mask_columns»)) (c .before .before .before .reflection-verdict .ensures) tt _ (c .before .f2 .given .1))
 
--- src/lib.rt:118:1
 returns-4 : tie.Need-returns-4
 unfolding firstDue
 returns-4 c =

@@ -1,31 +1,21 @@
-use Prim.Native.Nat.{_+_, _*_, _-_, _≤_, _<_}
-use mathlib.Core.Path.{_≡_, refl, sym, ap, _∙_}
+-- `record_read::record_verdict` meets its contract. Assumes nothing.
+use Prim.Native.Nat.{_≤_}
+use mathlib.Core.Path.{_≡_, sym, _∙_}
+use mathlib.Core.List.{_++_}
 use native.Mathlib.Omega.{arith}
 use borrow.Author.Tests.{ltb-false}
-use mathlib.Core.List.{List, [], _∷_, _++_}
-use lib.ListN.{length, getD, drop}
-use lib.Dec.{ltb}
+use borrow.Author.Needs.{needs}
 use Rattle.refusal.specs.Limits.{longestCycle, mostRows, mostColumns}
-use Rattle.refusal.specs.Outcome.{Rule, rule, Clear, firstDue, verdict}
-use Rattle.refusal.specs.Outcome.Outcome.{accepted, refused}
-use Rattle.refusal.proofs.Outcome.{tests, clear-split, passed-clear, passed-on, refused-before}
+use Rattle.refusal.specs.Outcome.{firstDue}
+use Rattle.refusal.proofs.Outcome.{clear-split, passed-clear, passed-on, refused-before}
 use Rattle.cycle.specs.Calls.{cycleRules}
 use Rattle.shape.specs.Rules.{sizeRules}
-use Rattle.record_format.specs.Fields.{numberAt, numbersAt, cycleTag, sizeTag, maskTag, rowTag, endTag}
-use Rattle.record_format.specs.Reading.{cycleIn, rowsIn, columnsIn, maskDue, shapeIn, rowAt, endAt, rowIn, imageIn, placedAfter, fieldRules, cycleFieldRules, sizeFieldRules, maskValueRules, maskFieldRules, rowFieldRules, endFieldRules, bodyRules, readRules}
-use Rattle.record_format.proofs.FieldRead.{FieldAt, field-clear, length-numbers-at, getD-numbers-at, numbers-at-last}
-use Rattle.record_format.proofs.Readable.{RowIn, row-clear, row-next, rows-within, length-row-in, Readable, readable}
-use borrow.Author.Needs.{needs}
+use Rattle.record_format.specs.Fields.{cycleTag, sizeTag, maskTag}
+use Rattle.record_format.specs.Reading.{cycleIn, rowsIn, columnsIn, maskDue, shapeIn, fieldRules, cycleFieldRules, sizeFieldRules, maskValueRules, maskFieldRules, bodyRules, readRules}
+use Rattle.record_format.proofs.FieldRead.{FieldAt, field-clear}
 use Rattle.record_read.proofs.record_verdict.Statement.{statement}
 use Rattle.record_read.proofs.record_verdict.Tie as tie
-use Rattle.record_read.proofs.record_verdict.Reads as reads
-use Rattle.record_read.proofs.record_verdict.Lts as lts
-use Rattle.record_read.proofs.body_verdict.Reads as body-verdict-reads
-use Rattle.record_read.proofs.cycle_field_verdict.Reads as cycle-field-verdict-reads
-use Rattle.record_read.proofs.mask_field_verdict.Reads as mask-field-verdict-reads
-use Rattle.record_read.proofs.size_field_verdict.Reads as size-field-verdict-reads
 
--- src/lib.rt:246:11
 -- the fields that passed, one after the other
 passed-cycle : (c : tie.After-enum-told) → FieldAt (c .before .before .before .before .args .bytes .now) 0 cycleTag 2
 passed-cycle c =
@@ -60,64 +50,51 @@ after-size c = after-cycle (c .before .before .before) ∙ passed-on (sizeFieldR
 cycle-field-verdict-requires : tie.Need-cycle-field-verdict-requires
 cycle-field-verdict-requires c κs = search needs
 
--- src/lib.rt:247:26
 enum-known-f : tie.Need-enum-known-f
 enum-known-f c = search needs
 
--- src/lib.rt:248:34
 enum-told : tie.Need-enum-told
 enum-told c = search needs
 
--- src/lib.rt:248:34
 size-field-verdict-requires : tie.Need-size-field-verdict-requires
 size-field-verdict-requires c κs = omega (arith, passed-cycle c .whole)
 
--- src/lib.rt:249:30
 enum-known-f-2 : tie.Need-enum-known-f-2
 enum-known-f-2 c = search needs
 
--- src/lib.rt:250:38
 enum-told-2 : tie.Need-enum-told-2
 enum-told-2 c = search needs
 
--- src/lib.rt:250:38
 mask-field-verdict-requires : tie.Need-mask-field-verdict-requires
 mask-field-verdict-requires c κs = let p = passed-size c in (omega (arith, p .0 .whole), p .1, p .2)
 
--- src/lib.rt:251:34
 enum-known-f-3 : tie.Need-enum-known-f-3
 enum-known-f-3 c = search needs
 
--- src/lib.rt:252:36
 enum-told-3 : tie.Need-enum-told-3
 enum-told-3 c = search needs
 
--- src/lib.rt:252:36
 body-verdict-requires : tie.Need-body-verdict-requires
 body-verdict-requires c κs =
     let p = passed-size (c .before .before .before) in
     record { whole = omega (arith, passed-mask c .whole); rows-fit = p .1; columns-fit = p .2 }
 
--- src/lib.rt:243:1
 returns : tie.Need-returns
 unfolding readRules
 returns c =
     let b = c .before .before .before .before .before .args .bytes .now in
     sym (refused-before (cycleFieldRules b) (c .before .before .before .cycle-field-verdict .ensures) tt _ (c .before .f .given .1))
 
--- src/lib.rt:243:1
 returns-2 : tie.Need-returns-2
 returns-2 c =
     let b = c .before .before .before .before .before .before .before .before .args .bytes .now in
     sym (after-cycle (c .before .before .before .before) ∙ refused-before (sizeFieldRules b) (c .before .before .before .size-field-verdict .ensures) tt _ (c .before .f2 .given .1))
 
--- src/lib.rt:243:1
 returns-3 : tie.Need-returns-3
 returns-3 c =
     let a = c .before .before .before .before .before .before .before .before .before .before .before .args in
     sym (after-size (c .before .before .before .before) ∙ refused-before (maskFieldRules (a .bytes .now) (a .room)) (c .before .before .before .mask-field-verdict .ensures) tt _ (c .before .f3 .given .1))
 
--- src/lib.rt:243:1
 returns-4 : tie.Need-returns-4
 returns-4 c =
     let k = c .before in

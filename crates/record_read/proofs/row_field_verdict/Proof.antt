@@ -1,34 +1,28 @@
-use Prim.Native.Nat.{_+_, _*_, _-_, _≤_, _<_}
-use mathlib.Core.Path.{_≡_, refl, sym, ap, _∙_}
+-- `record_read::row_field_verdict` meets its contract. Assumes nothing.
+use Prim.Native.Nat.{_+_, _*_}
+use mathlib.Core.Path.{_≡_, sym, _∙_}
+use mathlib.Core.List.{List, [], _∷_}
 use native.Mathlib.Omega.{arith}
 use native.Mathlib.Nat.{mul-le-mul, le-of-lt}
 use borrow.Author.Tests.{lt-ltb, le-ltb}
-use mathlib.Core.List.{List, [], _∷_, _++_}
-use lib.ListN.{length, getD, drop}
-use lib.Dec.{ltb}
+use borrow.Author.Needs.{needs}
+use lib.ListN.{length}
 use Rattle.lists.specs.First.{firstBad}
-use Rattle.refusal.specs.Outcome.{Rule, rule, Clear, firstDue, verdict}
+use Rattle.refusal.specs.Outcome.{Rule, firstDue, verdict}
 use Rattle.refusal.specs.Outcome.Outcome.{accepted, refused}
-use Rattle.refusal.proofs.Outcome.{tests, passed-clear, passed-on, refused-before}
+use Rattle.refusal.proofs.Outcome.{passed-clear, passed-on, refused-before}
 use Rattle.cycle.specs.Calls.{readingRule}
 use Rattle.cycle.specs.Distance.{isReading}
-use Rattle.record_format.specs.Fields.{numberAt, numbersAt, cycleTag, sizeTag, maskTag, rowTag, endTag}
-use Rattle.record_format.specs.Reading.{cycleIn, rowsIn, columnsIn, maskDue, shapeIn, rowAt, endAt, rowIn, imageIn, placedAfter, fieldRules, maskValueRules, maskFieldRules, rowFieldRules, endFieldRules, bodyRules, readRules}
-use Rattle.record_format.proofs.FieldRead.{FieldAt, field-clear, length-numbers-at, getD-numbers-at, numbers-at-last}
-use Rattle.record_format.proofs.Readable.{RowIn, row-clear, row-next, rows-within, length-row-in, Readable, readable}
-use borrow.Author.Needs.{needs}
+use Rattle.record_format.specs.Fields.{rowTag}
+use Rattle.record_format.specs.Reading.{cycleIn, columnsIn, rowAt, rowIn, placedAfter, fieldRules, rowFieldRules}
+use Rattle.record_format.proofs.FieldRead.{FieldAt, field-clear}
+use Rattle.record_format.proofs.Readable.{length-row-in}
 use Rattle.record_read.proofs.row_field_verdict.Statement.{statement}
 use Rattle.record_read.proofs.row_field_verdict.Tie as tie
-use Rattle.record_read.proofs.row_field_verdict.Reads as reads
-use Rattle.record_read.proofs.row_field_verdict.Lts as lts
-use Rattle.record_read.proofs.field_verdict.Reads as field-verdict-reads
-use Rattle.record_read.proofs.first_bad.Reads as first-bad-reads
 
--- src/lib.rt:175:45
 mul-field-verdict : tie.Need-mul-field-verdict
 mul-field-verdict c = search needs
 
--- src/lib.rt:175:11
 -- what the tests of the field said, by the offset of the row and its length
 said : (c : tie.After-field-verdict) → let a = c .before .before .args in let b = a .bytes .now in
     verdict (c .field-verdict .result) ≡ firstDue (fieldRules b (rowAt b (a .i)) rowTag (2 * columnsIn b)) tt
@@ -60,31 +54,24 @@ found c = let p = c .before .before .before .before .before .pre in rw (p .offse
 field-verdict-requires : tie.Need-field-verdict-requires
 field-verdict-requires c κs = search needs
 
--- src/lib.rt:176:26
 enum-known-f : tie.Need-enum-known-f
 enum-known-f c = search needs
 
--- src/lib.rt:178:38
 enum-told : tie.Need-enum-told
 enum-told c = search needs
 
--- src/lib.rt:178:38
 add-first-bad : tie.Need-add-first-bad
 add-first-bad c = search needs
 
--- src/lib.rt:178:17
 first-bad-requires : tie.Need-first-bad-requires
 first-bad-requires c κs = let p = c .before .before .before .before .pre in omega (arith, passed c .whole, p .offset, p .columns-are)
 
--- src/lib.rt:180:58
 mul-t13 : tie.Need-mul-t13
 mul-t13 c = let p = c .before .before .before .before .before .before .pre in omega (arith, mul-le-mul (le-of-lt (p .row-fits)) (p .columns-fit))
 
--- src/lib.rt:180:58
 add-t14 : tie.Need-add-t14
 add-t14 c = let p = c .before .before .before .before .before .before .pre in omega (arith, mul-le-mul (le-of-lt (p .row-fits)) (p .columns-fit))
 
--- src/lib.rt:180:17
 returns : tie.Need-returns
 unfolding firstDue
 returns c =
@@ -99,7 +86,6 @@ returns c =
     let at : refused 9 (a .i * a .columns + c .before .first-bad .result) ≡ firstDue (readings (c .before .before)) (tt {0}) = rw (due, place) in
     at ∙ sym (on (c .before .before))
 
--- src/lib.rt:171:1
 returns-2 : tie.Need-returns-2
 unfolding rowFieldRules
 returns-2 c =
@@ -107,7 +93,6 @@ returns-2 c =
     let b = a .bytes .now in
     sym (refused-before (fieldRules b (rowAt b (a .i)) rowTag (2 * columnsIn b)) (said (c .before .before .before)) tt _ (c .before .f .given .1))
 
--- src/lib.rt:171:1
 returns-3 : tie.Need-returns-3
 unfolding firstDue
 returns-3 c =

@@ -1,26 +1,20 @@
+-- `record_read::rows_verdict` meets its contract. Assumes nothing.
+use Prim.Native.Nat.{_+_, _-_, _≤_}
+use mathlib.Core.Path.{_≡_, sym, ap, _∙_}
+use mathlib.Core.List.{List, _++_}
 use native.Mathlib.Nat.{sub-zero}
-use Prim.Native.Nat.{_+_, _*_, _-_, _≤_, _<_}
-use mathlib.Core.Path.{_≡_, refl, sym, ap, _∙_}
 use native.Mathlib.Omega.{arith}
-use mathlib.Core.List.{List, [], _∷_, _++_}
-use lib.ListN.{length, getD, drop}
-use lib.Dec.{ltb}
+use borrow.Author.Needs.{needs}
+use lib.ListN.{length}
 use Rattle.lists.specs.Joined.{joined}
 use Rattle.lists.proofs.Joined.{joined-first, joined-none}
 use Rattle.shape.specs.declared.Shape.{Shape}
-use Rattle.refusal.specs.Outcome.{Rule, rule, Clear, firstDue, verdict}
-use Rattle.refusal.specs.Outcome.Outcome.{accepted, refused}
-use Rattle.refusal.proofs.Outcome.{tests, passed-clear, passed-on, refused-before}
-use Rattle.record_format.specs.Fields.{numberAt, numbersAt, cycleTag, sizeTag, maskTag, rowTag, endTag}
-use Rattle.record_format.specs.Reading.{cycleIn, rowsIn, columnsIn, maskDue, shapeIn, rowAt, endAt, rowIn, imageIn, placedAfter, fieldRules, maskValueRules, maskFieldRules, rowFieldRules, endFieldRules, bodyRules, readRules}
-use Rattle.record_format.proofs.FieldRead.{FieldAt, field-clear, length-numbers-at, getD-numbers-at, numbers-at-last}
-use Rattle.record_format.proofs.Readable.{RowIn, row-clear, row-next, rows-within, length-row-in, Readable, readable}
-use borrow.Author.Needs.{needs}
+use Rattle.refusal.specs.Outcome.{Rule, firstDue}
+use Rattle.refusal.proofs.Outcome.{passed-clear, passed-on, refused-before}
+use Rattle.record_format.specs.Reading.{rowsIn, columnsIn, rowAt, rowFieldRules}
+use Rattle.record_format.proofs.Readable.{RowIn, row-clear, row-next}
 use Rattle.record_read.proofs.rows_verdict.Statement.{statement}
 use Rattle.record_read.proofs.rows_verdict.Tie as tie
-use Rattle.record_read.proofs.rows_verdict.Reads as reads
-use Rattle.record_read.proofs.rows_verdict.Lts as lts
-use Rattle.record_read.proofs.row_field_verdict.Reads as row-field-verdict-reads
 
 abbrev Inv-loop : tie.InvT-loop
 Inv-loop bytes start shape rows columns at₀ i₀ at i =
@@ -30,7 +24,6 @@ Inv-loop bytes start shape rows columns at₀ i₀ at i =
 abbrev μ-loop : tie.MeasureT-loop
 μ-loop bytes start shape rows columns at₀ i₀ at i = rows - i
 
--- src/lib.rt:192:16
 -- the sizes are the record's
 rows-are : (c : tie.Start Inv-loop μ-loop) → c .args .shape .rows ≡ rowsIn (c .args .bytes .now)
 rows-are c = ap (λ (s : Shape). s .rows) (c .pre .0)
@@ -56,15 +49,12 @@ passed c =
 cast-rows : tie.Need-cast-rows Inv-loop μ-loop
 cast-rows c = search needs
 
--- src/lib.rt:193:19
 cast-columns : tie.Need-cast-columns Inv-loop μ-loop
 cast-columns c = search needs
 
--- src/lib.rt:196:5
 loop-holds : tie.Need-loop-holds Inv-loop μ-loop
 loop-holds c = (omega arith, c .before .before .before .pre .3, c .before .before .before .pre .4, rw sub-zero)
 
--- src/lib.rt:197:15
 row-field-verdict-requires : tie.Need-row-field-verdict-requires Inv-loop μ-loop
 row-field-verdict-requires c κs =
     let s = c .before .before .before .before .before in
@@ -78,42 +68,33 @@ row-field-verdict-requires c κs =
       cycle-is = ap (λ (s : Shape). s .cycle) (s .pre .0);
     }
 
--- src/lib.rt:198:30
 enum-known-f : tie.Need-enum-known-f Inv-loop μ-loop
 enum-known-f c = search needs
 
--- src/lib.rt:199:17
 returns : tie.Need-returns Inv-loop μ-loop
 returns c =
     let k = c .before .before .before .before in
     let b = k .before .before .before .before .before .args .bytes .now in
     sym (first k ∙ refused-before (rowFieldRules b (k .before .loop .i)) (c .before .before .before .row-field-verdict .ensures) tt _ (c .before .f .given .1))
 
--- src/lib.rt:202:27
 enum-told : tie.Need-enum-told Inv-loop μ-loop
 enum-told c = search needs
 
--- src/lib.rt:202:27
 mul-at : tie.Need-mul-at Inv-loop μ-loop
 mul-at c = let s = c .before .before .before .before .before .before .before .before in omega (arith, s .pre .2)
 
--- src/lib.rt:202:23
 add-at : tie.Need-add-at Inv-loop μ-loop
 add-at c = let s = c .before .before .before .before .before .before .before .before in omega (arith, s .pre .2)
 
--- src/lib.rt:202:17
 add-at-2 : tie.Need-add-at-2 Inv-loop μ-loop
 add-at-2 c = let s = c .before .before .before .before .before .before .before .before in omega (arith, passed c .field .whole, columns-are s)
 
--- src/lib.rt:203:17
 add-i : tie.Need-add-i Inv-loop μ-loop
 add-i c = search needs
 
--- src/lib.rt:196:5
 loop-less : tie.Need-loop-less Inv-loop μ-loop
 loop-less c = search needs
 
--- src/lib.rt:196:5
 loop-again : tie.Need-loop-again Inv-loop μ-loop
 loop-again c =
     let k = c .before .before .before in
@@ -121,11 +102,13 @@ loop-again c =
     let b = s .args .bytes .now in
     let i = k .before .loop .i in
     let n = columns-are s in
-    let w = passed c .field .whole in
-    (omega arith, omega (arith, row-next b i), omega arith,
-      first k ∙ passed-on (rowFieldRules b i) (c .before .before .row-field-verdict .ensures) (tt {0}) (joined (rowFieldRules b) (i + 1) (rowsIn b - (i + 1))) (c .enum-told .given .1))
+    let w = passed c .field .whole in (
+      omega arith,
+      omega (arith, row-next b i),
+      omega arith,
+      first k ∙ passed-on (rowFieldRules b i) (c .before .before .row-field-verdict .ensures) (tt {0}) (joined (rowFieldRules b) (i + 1) (rowsIn b - (i + 1))) (c .enum-told .given .1),
+    )
 
--- src/lib.rt:188:1
 returns-2 : tie.Need-returns-2 Inv-loop μ-loop
 unfolding firstDue joined
 returns-2 c =

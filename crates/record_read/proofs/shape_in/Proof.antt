@@ -1,45 +1,32 @@
+-- `record_read::shape_in` meets its contract. Assumes nothing.
 use borrow.Author.Needs.{needs}
 use Rattle.record_read.proofs.shape_in.Statement.{statement}
 use Rattle.record_read.proofs.shape_in.Tie as tie
-use Rattle.record_read.proofs.shape_in.Reads as reads
-use Rattle.record_read.proofs.shape_in.Lts as lts
-use Rattle.record_format.proofs.number_at.Reads as number-at-reads
-use Rattle.record_read.proofs.mask_columns.Reads as mask-columns-reads
-use Rattle.record_read.proofs.mask_rows.Reads as mask-rows-reads
 
--- src/lib.rt:109:16
 number-at-requires : tie.Need-number-at-requires
 number-at-requires c κs = search needs
 
--- src/lib.rt:109:16
 cast-t3 : tie.Need-cast-t3
 cast-t3 c = search needs
 
--- src/lib.rt:110:15
 number-at-requires-2 : tie.Need-number-at-requires-2
 number-at-requires-2 c κs = search needs
 
--- src/lib.rt:110:15
 cast-t5 : tie.Need-cast-t5
 cast-t5 c = search needs
 
--- src/lib.rt:111:18
 number-at-requires-3 : tie.Need-number-at-requires-3
 number-at-requires-3 c κs = search needs
 
--- src/lib.rt:111:18
 cast-t7 : tie.Need-cast-t7
 cast-t7 c = search needs
 
--- src/lib.rt:112:20
 mask-rows-requires : tie.Need-mask-rows-requires
 mask-rows-requires c κs = search needs
 
--- src/lib.rt:113:23
 mask-columns-requires : tie.Need-mask-columns-requires
 mask-columns-requires c κs = search needs
 
--- src/lib.rt:104:1
 returns : tie.Need-returns
 returns c = cc
 

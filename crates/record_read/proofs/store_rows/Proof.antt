@@ -1,25 +1,18 @@
+-- `record_read::store_rows` meets its contract. Assumes nothing.
 use Prim.Native.Nat.{_+_, _*_, _-_, _≤_, _<_}
-use mathlib.Core.Path.{_≡_, refl, sym, ap, _∙_}
+use mathlib.Core.Path.{_≡_}
 use native.Mathlib.Omega.{arith}
-use mathlib.Core.List.{List, [], _∷_, _++_}
-use lib.ListN.{length, getD, drop}
-use lib.Dec.{ltb}
+use borrow.Author.Needs.{needs}
+use lib.ListN.{length}
 use Rattle.lists.specs.Joined.{joined}
 use Rattle.lists.proofs.Joined.{joined-more, length-joined}
 use Rattle.lists.proofs.Stores.{Stored, stored-none, stored-more}
 use Rattle.record_format.proofs.Fields.{part-end}
-use Rattle.record_format.specs.Fields.{numberAt, numbersAt, cycleTag, sizeTag, maskTag, rowTag, endTag}
-use Rattle.record_format.specs.Reading.{cycleIn, rowsIn, columnsIn, maskDue, shapeIn, rowAt, endAt, rowIn, imageIn, placedAfter, fieldRules, cycleFieldRules, sizeFieldRules, maskValueRules, maskFieldRules, rowFieldRules, endFieldRules, bodyRules, readRules}
-use Rattle.record_format.proofs.FieldRead.{FieldAt, field-clear, length-numbers-at, getD-numbers-at, numbers-at-last}
-use Rattle.record_format.proofs.Readable.{RowIn, row-clear, row-next, rows-within, length-row-in, Readable, readable}
-use borrow.Author.Needs.{needs}
+use Rattle.record_format.specs.Fields.{numbersAt}
+use Rattle.record_format.specs.Reading.{rowsIn, columnsIn, rowAt, rowIn, imageIn}
+use Rattle.record_format.proofs.Readable.{row-next, length-row-in, Readable, readable}
 use Rattle.record_read.proofs.store_rows.Statement.{statement}
 use Rattle.record_read.proofs.store_rows.Tie as tie
-use Rattle.record_read.proofs.store_rows.Reads as reads
-use Rattle.record_read.proofs.store_rows.Lts as lts
-use Rattle.record_format.proofs.number_at.Reads as number-at-reads
-use Rattle.record_read.proofs.mask_due.Reads as mask-due-reads
-use Rattle.record_read.proofs.store_numbers.Reads as store-numbers-reads
 
 abbrev Inv-loop : tie.InvT-loop
 Inv-loop bytes readings₀ rows columns at₀ i₀ readings at i = (i ≤ rows) × (at ≡ rowAt bytes i) × Stored readings₀ 0 (joined (rowIn bytes) 0 i) readings
@@ -27,7 +20,6 @@ Inv-loop bytes readings₀ rows columns at₀ i₀ readings at i = (i ≤ rows) 
 abbrev μ-loop : tie.MeasureT-loop
 μ-loop bytes readings₀ rows columns at₀ i₀ readings at i = rows - i
 
--- src/lib.rt:275:16
 -- what the tests say
 known : (c : tie.Start Inv-loop μ-loop) → Readable (c .args .bytes .now) (length (c .args .readings .now))
 known c = readable (c .args .bytes .now) (length (c .args .readings .now)) (c .pre)
@@ -47,64 +39,49 @@ row-end c =
 number-at-requires : tie.Need-number-at-requires Inv-loop μ-loop
 number-at-requires c κs = omega (arith, known (c .before .before) .size .whole)
 
--- src/lib.rt:275:16
 cast-rows : tie.Need-cast-rows Inv-loop μ-loop
 cast-rows c = search needs
 
--- src/lib.rt:276:19
 number-at-requires-2 : tie.Need-number-at-requires-2 Inv-loop μ-loop
 number-at-requires-2 c κs = omega (arith, known (c .before .before .before) .size .whole)
 
--- src/lib.rt:276:19
 cast-columns : tie.Need-cast-columns Inv-loop μ-loop
 cast-columns c = search needs
 
--- src/lib.rt:277:23
 mask-due-requires : tie.Need-mask-due-requires Inv-loop μ-loop
 mask-due-requires c κs = omega (arith, known (c .before .before .before .before) .mask .whole)
 
--- src/lib.rt:277:18
 add-at : tie.Need-add-at Inv-loop μ-loop
 add-at c = omega (arith, known (c .before .before .before .before .before) .mask .whole, c .mask-due .ensures)
 
--- src/lib.rt:279:5
 loop-holds : tie.Need-loop-holds Inv-loop μ-loop
 unfolding joined rowAt
 loop-holds c = (omega arith, omega (arith, c .mask-due .ensures), stored-none)
 
--- src/lib.rt:280:30
 add-store-numbers : tie.Need-add-store-numbers Inv-loop μ-loop
 add-store-numbers c = omega (arith, row-end c)
 
--- src/lib.rt:280:48
 mul-store-numbers : tie.Need-mul-store-numbers Inv-loop μ-loop
 mul-store-numbers c = omega (arith, row-end (c .before))
 
--- src/lib.rt:280:9
 store-numbers-requires : tie.Need-store-numbers-requires Inv-loop μ-loop
 store-numbers-requires c κs = omega (arith, row-end (c .before))
 
--- src/lib.rt:281:19
 mul-at : tie.Need-mul-at Inv-loop μ-loop
 mul-at c = omega (arith, row-end (c .before .before .before .before))
 
--- src/lib.rt:281:15
 add-at-2 : tie.Need-add-at-2 Inv-loop μ-loop
 add-at-2 c = omega (arith, row-end (c .before .before .before .before))
 
--- src/lib.rt:281:9
 add-at-3 : tie.Need-add-at-3 Inv-loop μ-loop
 add-at-3 c = omega (arith, row-end (c .before .before .before .before))
 
--- src/lib.rt:282:9
 add-i : tie.Need-add-i Inv-loop μ-loop
 add-i c = search needs
 
--- src/lib.rt:279:5
 loop-less : tie.Need-loop-less Inv-loop μ-loop
 loop-less c = search needs
 
--- src/lib.rt:279:5
 loop-again : tie.Need-loop-again Inv-loop μ-loop
 unfolding rowIn
 loop-again c =
@@ -114,15 +91,15 @@ loop-again c =
     let n = k .before .before .before .number-at2 .ensures in
     let row : numbersAt b (l .at + 3) (k .before .before .before .number-at2 .result) ≡ rowIn b (l .i) = let e = l .inv .1 in cc in
     let next : l .i * k .before .before .before .number-at2 .result ≡ 0 + length (joined (rowIn b) 0 (l .i)) =
-    rw n (omega (arith, length-joined (rowIn b) (columnsIn b) 0 (l .i) (λ j h g. length-row-in b j))) in
-    (omega arith, omega (arith, row-next b (l .i)),
-      rw (joined-more (rowIn b) (l .i)) (stored-more (l .inv .2) (l .i * k .before .before .before .number-at2 .result) (rowIn b (l .i)) next (rw row at (c .before .before .store-numbers .ensures))))
+    rw n (omega (arith, length-joined (rowIn b) (columnsIn b) 0 (l .i) (λ j h g. length-row-in b j))) in (
+      omega arith,
+      omega (arith, row-next b (l .i)),
+      rw (joined-more (rowIn b) (l .i)) (stored-more (l .inv .2) (l .i * k .before .before .before .number-at2 .result) (rowIn b (l .i)) next (rw row at (c .before .before .store-numbers .ensures))),
+    )
 
--- src/lib.rt:271:1
 same-length : tie.Need-same-length Inv-loop μ-loop
 same-length c = search needs
 
--- src/lib.rt:271:1
 returns : tie.Need-returns Inv-loop μ-loop
 unfolding imageIn
 returns c =

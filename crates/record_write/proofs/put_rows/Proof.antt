@@ -1,18 +1,16 @@
-use Prim.Native.Nat.{_+_, _*_, _-_, _≤_, _<_}
-use mathlib.Core.Path.{_≡_, refl, ap, sym, _∙_}
+-- `record_write::put_rows` meets its contract. Assumes nothing.
+use Prim.Native.Nat.{_+_, _*_, _-_, _≤_}
+use mathlib.Core.Path.{_≡_}
 use native.Mathlib.Omega.{arith}
+use borrow.Author.Needs.{needs}
 use lib.ListN.{length, take, drop, length-take, length-drop}
 use Rattle.lists.specs.Joined.{joined}
 use Rattle.lists.proofs.Joined.{joined-more}
-use Rattle.lists.proofs.Stores.{Stored, stored, stored-none, stored-more}
+use Rattle.lists.proofs.Stores.{Stored, stored-none, stored-more}
 use Rattle.record_format.specs.Record.{rowOf, rowField}
 use Rattle.record_format.proofs.Fields.{part-end, length-row-fields}
-use borrow.Author.Needs.{needs}
 use Rattle.record_write.proofs.put_rows.Statement.{statement}
 use Rattle.record_write.proofs.put_rows.Tie as tie
-use Rattle.record_write.proofs.put_rows.Reads as reads
-use Rattle.record_write.proofs.put_rows.Lts as lts
-use Rattle.record_write.proofs.put_row.Reads as put-row-reads
 
 abbrev Inv-loop : tie.InvT-loop
 Inv-loop bytes₀ rows columns readings at₀ start₀ i₀ bytes at start i =
@@ -21,7 +19,6 @@ Inv-loop bytes₀ rows columns readings at₀ start₀ i₀ bytes at start i =
 abbrev μ-loop : tie.MeasureT-loop
 μ-loop bytes₀ rows columns readings at₀ start₀ i₀ bytes at start i = rows - i
 
--- src/lib.rt:102:5
 -- the row at hand ends within the readings and the bytes
 row-end : (c : tie.In-loop Inv-loop μ-loop) → let a = c .before .before .before .before .args in
     (c .before .loop .start + a .columns ≤ length (a .readings .now)) × (c .before .loop .at + (3 + 2 * a .columns) ≤ length (c .before .loop .bytes))
@@ -34,51 +31,39 @@ loop-holds : tie.Need-loop-holds Inv-loop μ-loop
 unfolding joined
 loop-holds c = (omega arith, omega arith, omega arith, stored-none)
 
--- src/lib.rt:103:19
 add-end : tie.Need-add-end Inv-loop μ-loop
 add-end c = omega (arith, row-end c)
 
--- src/lib.rt:104:28
 mul-put-row : tie.Need-mul-put-row Inv-loop μ-loop
 mul-put-row c = omega (arith, row-end (c .before))
 
--- src/lib.rt:104:28
 sub-put-row : tie.Need-sub-put-row Inv-loop μ-loop
 sub-put-row c = omega (arith, row-end (c .before))
 
--- src/lib.rt:104:28
 part-put-row-start : tie.Need-part-put-row-start Inv-loop μ-loop
 part-put-row-start c = omega (arith, row-end (c .before))
 
--- src/lib.rt:104:28
 part-put-row-end : tie.Need-part-put-row-end Inv-loop μ-loop
 part-put-row-end c = omega (arith, row-end (c .before))
 
--- src/lib.rt:104:9
 put-row-requires : tie.Need-put-row-requires Inv-loop μ-loop
 put-row-requires c κs = simp (length-take, length-drop) (omega (arith, row-end (c .before .before)))
 
--- src/lib.rt:105:19
 mul-at : tie.Need-mul-at Inv-loop μ-loop
 mul-at c = omega (arith, row-end (c .before .before .before .before .before))
 
--- src/lib.rt:105:15
 add-at : tie.Need-add-at Inv-loop μ-loop
 add-at c = omega (arith, row-end (c .before .before .before .before .before))
 
--- src/lib.rt:105:9
 add-at-2 : tie.Need-add-at-2 Inv-loop μ-loop
 add-at-2 c = omega (arith, row-end (c .before .before .before .before .before))
 
--- src/lib.rt:107:9
 add-i : tie.Need-add-i Inv-loop μ-loop
 add-i c = search needs
 
--- src/lib.rt:102:5
 loop-less : tie.Need-loop-less Inv-loop μ-loop
 loop-less c = search needs
 
--- src/lib.rt:102:5
 loop-again : tie.Need-loop-again Inv-loop μ-loop
 loop-again c =
     let l = c .before .before .before .before .before .before .loop in
@@ -88,15 +73,16 @@ loop-again c =
     let s = l .inv .1 in
     cc in
     let next : l .at ≡ 19 + length (joined (rowField (a .columns) (a .readings .now)) 0 (l .i)) =
-    omega (arith, length-row-fields (a .columns) (a .readings .now) (l .i) (a .rows) (omega arith) (omega arith)) in
-    (omega arith, omega arith, omega arith,
-      rw (joined-more (rowField (a .columns) (a .readings .now)) (l .i)) (stored-more (l .inv .3) (l .at) (rowField (a .columns) (a .readings .now) (l .i)) next (rw row-is at (c .before .before .put-row .ensures))))
+    omega (arith, length-row-fields (a .columns) (a .readings .now) (l .i) (a .rows) (omega arith) (omega arith)) in (
+      omega arith,
+      omega arith,
+      omega arith,
+      rw (joined-more (rowField (a .columns) (a .readings .now)) (l .i)) (stored-more (l .inv .3) (l .at) (rowField (a .columns) (a .readings .now) (l .i)) next (rw row-is at (c .before .before .put-row .ensures))),
+    )
 
--- src/lib.rt:95:1
 same-length : tie.Need-same-length Inv-loop μ-loop
 same-length c = search needs
 
--- src/lib.rt:95:1
 returns : tie.Need-returns Inv-loop μ-loop
 returns c =
     let l = c .before .loop in

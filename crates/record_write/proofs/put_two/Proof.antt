@@ -1,41 +1,31 @@
+-- `record_write::put_two` meets its contract. Assumes nothing.
 use Prim.Native.Nat.{_+_}
 use mathlib.Core.List.{_∷_}
 use native.Mathlib.Omega.{arith}
+use borrow.Author.Needs.{needs}
 use Rattle.lists.proofs.Stores.{Stored, stored, stored-more}
 use Rattle.record_format.specs.Fields.{number, numbers, field}
-use borrow.Author.Needs.{needs}
 use Rattle.record_write.proofs.put_two.Statement.{statement}
 use Rattle.record_write.proofs.put_two.Tie as tie
-use Rattle.record_write.proofs.put_two.Reads as reads
-use Rattle.record_write.proofs.put_two.Lts as lts
-use Rattle.record_format.proofs.put_number.Reads as put-number-reads
-use Rattle.record_write.proofs.put_head.Reads as put-head-reads
 
--- src/lib.rt:68:5
 put-head-requires : tie.Need-put-head-requires
 put-head-requires c κs = search needs
 
--- src/lib.rt:69:23
 add-put-number : tie.Need-add-put-number
 add-put-number c = search needs
 
--- src/lib.rt:69:5
 put-number-requires : tie.Need-put-number-requires
 put-number-requires c κs = search needs
 
--- src/lib.rt:70:23
 add-put-number-2 : tie.Need-add-put-number-2
 add-put-number-2 c = search needs
 
--- src/lib.rt:70:5
 put-number-requires-2 : tie.Need-put-number-requires-2
 put-number-requires-2 c κs = search needs
 
--- src/lib.rt:64:1
 same-length : tie.Need-same-length
 same-length c = search needs
 
--- src/lib.rt:64:1
 returns : tie.Need-returns
 unfolding field numbers number
 returns c =

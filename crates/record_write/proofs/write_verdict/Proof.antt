@@ -1,24 +1,18 @@
-use mathlib.Core.Path.{sym, _∙_}
+-- `record_write::write_verdict` meets its contract. Assumes nothing.
+use mathlib.Core.Path.{sym, _∙_, _≡_}
+use mathlib.Core.List.{List}
 use native.Mathlib.Omega.{arith}
+use borrow.Author.Needs.{needs}
 use Rattle.refusal.specs.Limits.{longestCycle}
-use Rattle.refusal.specs.Outcome.{Clear, firstDue}
+use Rattle.refusal.specs.Outcome.{Clear, firstDue, Rule, verdict}
 use Rattle.refusal.proofs.Outcome.{tests, passed-clear, after-clear, refused-before}
 use Rattle.shape.specs.Rules.{shapeRules}
 use Rattle.shape.proofs.Accepted.{shape-clear, area-fits}
-use mathlib.Core.Path.{_≡_}
-use mathlib.Core.List.{List}
-use Rattle.refusal.specs.Outcome.{Rule, verdict}
 use Rattle.refusal.specs.Outcome.Outcome.{refused}
 use Rattle.record_format.specs.Record.{recordLength, callRules, writeRules}
-use borrow.Author.Needs.{needs}
 use Rattle.record_write.proofs.write_verdict.Statement.{statement}
 use Rattle.record_write.proofs.write_verdict.Tie as tie
-use Rattle.record_write.proofs.write_verdict.Reads as reads
-use Rattle.record_write.proofs.write_verdict.Lts as lts
-use Rattle.cycle.proofs.reading_verdict.Reads as reading-verdict-reads
-use Rattle.shape.proofs.shape_verdict.Reads as shape-verdict-reads
 
--- src/lib.rt:29:11
 -- the tests of the shape that passed
 clear : (c : tie.After-enum-told) → Clear (shapeRules longestCycle (c .before .before .before .before .args .shape))
 clear c = passed-clear (shapeRules longestCycle (c .before .before .before .before .args .shape)) (c .before .before .shape-verdict .ensures) (c .enum-told .given .1)
@@ -33,69 +27,55 @@ on c = let a = c .before .before .before .before .args in after-clear tt (shapeR
 shape-verdict-requires : tie.Need-shape-verdict-requires
 shape-verdict-requires c κs = search needs
 
--- src/lib.rt:30:26
 enum-known-f : tie.Need-enum-known-f
 enum-known-f c = search needs
 
--- src/lib.rt:32:24
 enum-told : tie.Need-enum-told
 enum-told c = search needs
 
--- src/lib.rt:32:24
 cast-rows : tie.Need-cast-rows
 cast-rows c = search needs
 
--- src/lib.rt:33:27
 cast-columns : tie.Need-cast-columns
 cast-columns c = search needs
 
--- src/lib.rt:34:34
 mul-if1 : tie.Need-mul-if1
 mul-if1 c =
     let s = c .before .before .before .before .before .before .args .shape in
     omega (arith, area-fits (shape-clear longestCycle s (clear (c .before .before))))
 
--- src/lib.rt:35:17
 returns : tie.Need-returns
 unfolding firstDue
 returns c =
     let due : refused 6 0 ≡ firstDue (rest (c .before .before .before)) (tt {0}) = search tests in
     due ∙ sym (on (c .before .before .before))
 
--- src/lib.rt:37:40
 mul-if2 : tie.Need-mul-if2
 mul-if2 c = search needs
 
--- src/lib.rt:37:36
 add-if2 : tie.Need-add-if2
 add-if2 c = search needs
 
--- src/lib.rt:37:28
 mul-if2-2 : tie.Need-mul-if2-2
 mul-if2-2 c = search needs
 
--- src/lib.rt:37:23
 add-if2-2 : tie.Need-add-if2-2
 add-if2-2 c = search needs
 
--- src/lib.rt:38:17
 returns-2 : tie.Need-returns-2
 unfolding firstDue recordLength
 returns-2 c =
     let due : refused 7 0 ≡ firstDue (rest (c .before .before .before .before)) (tt {0}) = search tests in
     due ∙ sym (on (c .before .before .before .before))
 
--- src/lib.rt:40:13
 reading-verdict-requires : tie.Need-reading-verdict-requires
 reading-verdict-requires c κs = search needs
 
--- src/lib.rt:26:1
 returns-3 : tie.Need-returns-3
 returns-3 c =
     let a = c .before .before .before .before .before .args in
     sym (refused-before (shapeRules longestCycle (a .shape)) (c .before .before .before .shape-verdict .ensures) tt _ (c .before .f .given .1))
 
--- src/lib.rt:26:1
 returns-4 : tie.Need-returns-4
 unfolding firstDue recordLength
 returns-4 c =
