@@ -292,8 +292,8 @@ fn changes() {
     }
 }
 
-// The reader's refusals, each with its place, and the order of its tests.
-fn head_faults() {
+// The reader on field 01 and before it.
+fn cycle_faults() {
     read(&[], 8192);
     read(&[2], 8192);
     read(&[2, 0], 8192);
@@ -303,9 +303,17 @@ fn head_faults() {
     read(&[1, 0, 2, 0], 8192);
     read(&[1, 0, 2, 0, 0], 8192);
     read(&[1, 0, 2, 0, 8], 8192);
+}
+
+// On field 02.
+fn size_faults() {
     read(&[1, 0, 2, 0, 8, 2, 0, 4, 0, 0, 0, 5], 8192);
     read(&[1, 0, 2, 0, 8, 2, 0, 4, 4, 1, 0, 5], 8192);
     read(&[1, 0, 2, 0, 8, 2, 0, 4, 0, 1, 32, 1], 8192);
+}
+
+// On field 03 and the readings buffer.
+fn mask_faults() {
     read(&[1, 0, 2, 0, 8, 2, 0, 4, 0, 1, 0, 5, 3, 0, 2, 0, 1], 8192);
     read(
         &[1, 0, 2, 0, 8, 2, 0, 4, 0, 1, 0, 5, 3, 0, 4, 0, 1, 0, 4],
@@ -324,6 +332,7 @@ fn head_faults() {
     read(&[1, 0, 2, 0, 8, 2, 0, 4, 0, 1, 0, 5, 3, 0, 0], 4);
 }
 
+// On the fields of rows.
 fn row_faults() {
     read(
         &[
@@ -482,6 +491,10 @@ fn row_faults() {
         ],
         8192,
     );
+}
+
+// On field FF and after it; on the whole record with little room.
+fn end_faults() {
     read(
         &[
             1,
@@ -836,16 +849,25 @@ fn written_records() {
     );
 }
 
-fn write_faults() {
+// The writer: 1 and 2.
+fn write_shape_faults() {
     write(shape(0, 0, 5, 2, 3), &[9], 0);
     write(shape(65536, 1, 5, 1, 3), &[1, 4, 1, 7, 7], 35);
     write(shape(8, 0, 5, 2, 3), &[9], 0);
     write(shape(8, 1025, 5, 1, 3), &[], 0);
     write(shape(8, 1, 8193, 1, 3), &[], 0);
+}
+
+// 3 and 4.
+fn write_mask_faults() {
     write(shape(8, 1, 5, 1, 4), &[9], 0);
     write(shape(8, 1, 5, 257, 3), &[9], 0);
     write(shape(8, 1, 5, 5, 3), &[9], 0);
     write(shape(8, 1, 5, 1, 13), &[9], 0);
+}
+
+// 6, 7 and 9.
+fn write_memory_faults() {
     write(shape(8, 1, 5, 1, 3), &[1, 9, 1, 7], 34);
     write(shape(8, 1, 5, 1, 3), &[1, 4, 1, 7, 7, 7], 35);
     write(shape(8, 1, 5, 1, 3), &[1, 9, 1, 7, 7], 34);
@@ -855,11 +877,16 @@ fn write_faults() {
 }
 
 fn main() {
-    head_faults();
+    cycle_faults();
+    size_faults();
+    mask_faults();
     row_faults();
+    end_faults();
     accepted_records();
     cuts();
     changes();
     written_records();
-    write_faults();
+    write_shape_faults();
+    write_mask_faults();
+    write_memory_faults();
 }
