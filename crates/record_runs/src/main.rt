@@ -101,6 +101,11 @@ fn say_bytes_kept(bytes: &[u8], start: usize) {
     say(b", kept\n");
 }
 
+// The number of readings of an image.
+fn area(s: Shape) -> usize {
+    s.rows as usize * s.columns as usize
+}
+
 // Reads, and prints the answer.
 fn read_into(bytes: &[u8], buffer: &mut [u16]) {
     match record::read(bytes, buffer) {
@@ -111,7 +116,7 @@ fn read_into(bytes: &[u8], buffer: &mut [u16]) {
         ReadAnswer::Read(s) => {
             say_shape(s);
             let start = 0;
-            let end = s.rows as usize * s.columns as usize;
+            let end = area(s);
             if buffer.len() < end {
                 say(b" OUT OF RANGE\n");
                 return;
@@ -182,6 +187,28 @@ fn write(shape: Shape, readings: &[u16], room: usize) {
     say_number(room as u64);
     say(b" ->");
     write_part(shape, readings, room, &mut bytes);
+}
+
+// Reads, and writes what was read.
+fn again(bytes: &[u8]) {
+    let mut buffer = [READING_MARK; 20];
+    let mut copy = [BYTE_MARK; 128];
+    let start = 0;
+    say(b"again");
+    say_bytes(bytes);
+    say(b" ->");
+    match record::read(bytes, &mut buffer) {
+        ReadAnswer::Refused(r) => {
+            say_refusal(r);
+            say(b"\n");
+        }
+        ReadAnswer::Read(s) => {
+            let end = area(s);
+            if end <= 20 {
+                write_into(s, &buffer[start..end], &mut copy);
+            }
+        }
+    }
 }
 
 fn shape(cycle: u32, rows: u32, columns: u32, mask_rows: u32, mask_columns: u32) -> Shape {
@@ -815,6 +842,120 @@ fn accepted_records() {
     );
 }
 
+// With four bytes in field 03 the same bytes; with an empty field 03 four more.
+fn written_again() {
+    again(
+        &[
+            1,
+            0,
+            2,
+            0,
+            8,
+            2,
+            0,
+            4,
+            0,
+            1,
+            0,
+            5,
+            3,
+            0,
+            4,
+            0,
+            1,
+            0,
+            3,
+            4,
+            0,
+            10,
+            0,
+            1,
+            0,
+            4,
+            0,
+            1,
+            0,
+            7,
+            0,
+            7,
+            255,
+            0,
+            0,
+        ],
+    );
+    again(
+        &[
+            1,
+            0,
+            2,
+            255,
+            255,
+            2,
+            0,
+            4,
+            0,
+            2,
+            0,
+            1,
+            3,
+            0,
+            4,
+            0,
+            5,
+            0,
+            3,
+            4,
+            0,
+            2,
+            255,
+            254,
+            4,
+            0,
+            2,
+            1,
+            0,
+            255,
+            0,
+            0,
+        ],
+    );
+    again(
+        &[
+            1,
+            0,
+            2,
+            0,
+            8,
+            2,
+            0,
+            4,
+            0,
+            1,
+            0,
+            5,
+            3,
+            0,
+            0,
+            4,
+            0,
+            10,
+            0,
+            1,
+            0,
+            4,
+            0,
+            1,
+            0,
+            7,
+            0,
+            7,
+            255,
+            0,
+            0,
+        ],
+    );
+}
+
 fn written_records() {
     write(shape(8, 1, 5, 1, 3), &[1, 4, 1, 7, 7], 35);
     write(shape(8, 1, 5, 1, 3), &[1, 4, 1, 7, 7], 128);
@@ -885,6 +1026,7 @@ fn main() {
     accepted_records();
     cuts();
     changes();
+    written_again();
     written_records();
     write_shape_faults();
     write_mask_faults();
