@@ -41,7 +41,8 @@ record HasWritten (s : Shape) (readings bytes : List ℕ) (n : ℕ) (bytes′ : 
   tests : Writable s readings (length bytes)
   bytes-are : take n bytes′ ≡ recordBytes s readings
 
-has-written : {s : Shape} {readings bytes : List ℕ} {n : ℕ} {bytes′ : List ℕ} → Writes s readings bytes (Written n) bytes′ → HasWritten s readings bytes n bytes′
+has-written : {s : Shape} {readings bytes : List ℕ} {n : ℕ} {bytes′ : List ℕ} → Writes s readings bytes (Written n) bytes′
+    → HasWritten s readings bytes n bytes′
 unfolding writeCall
 has-written {s} {readings} {bytes} {n} {bytes′} w =
     let clear = accepted-clear (recordLength s) (writeRules s readings (length bytes)) n (sym (w .answer)) in
@@ -91,7 +92,8 @@ module _ {b buffer buffer′ : List ℕ} {s : Shape} {bytes : List ℕ} {w : Wri
       let s-is : s ≡ shapeIn b = cc in
       let all = i .memory ∙ left-accepted (imageIn b) buffer (sym (i .answer)) in
       let image : take (area s) buffer′ ≡ imageIn b = ap (take (area s)) all ∙ take-at (imageIn b) _ (area s) (length-image b ∙ ap area (sym s-is)) in
-      let p : Writes (shapeIn b) (imageIn b) bytes w bytes′ = subst (λ (x : List ℕ). Writes (shapeIn b) x bytes w bytes′) image (subst (λ (q : Shape). Writes q (take (area s) buffer′) bytes w bytes′) s-is o) in
+      let q = subst (λ (t : Shape). Writes t (take (area s) buffer′) bytes w bytes′) s-is o in
+      let p = subst (λ (x : List ℕ). Writes (shapeIn b) x bytes w bytes′) image q in
       let call = read-written b small (length buffer) t four (length bytes) room in
       let back = bytes-back b small (length buffer) t four in
       (told-written w (length b) (p .answer ∙ call), p .memory ∙ left-accepted (recordBytes (shapeIn b) (imageIn b)) bytes call ∙ rw back)

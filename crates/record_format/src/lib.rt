@@ -1,10 +1,9 @@
 // Numbers and fields as bytes: each number two bytes, high byte first.
 ghost use mathlib.Core.Path.{_≡_};
-ghost use mathlib.Core.List.{[], _∷_};
 ghost use Prim.Native.Nat.{_+_, _*_, _≤_, _<_};
 ghost use lib.ListN.{length};
 ghost use lib.Seq.{sets};
-ghost use Rattle.record_format.specs.Fields.{number, numbers, field, numberAt};
+ghost use Rattle.record_format.specs.Fields.{number, numberAt};
 
 pub const CYCLE_TAG: u8 = 0x01;
 

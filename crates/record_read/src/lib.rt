@@ -23,7 +23,8 @@ ghost use Rattle.refusal.specs.Limits.{mostRows, mostColumns};
 ghost use Rattle.refusal.specs.Outcome.{firstDue, verdict, Clear};
 ghost use Rattle.cycle.specs.Distance.{isReading};
 ghost use Rattle.record_format.specs.Fields.{numbersAt};
-ghost use Rattle.record_format.specs.Reading.{cycleIn, rowsIn, columnsIn, maskDue, maskRowsIn, maskColumnsIn, shapeIn, rowAt, endAt, imageIn, fieldRules, cycleFieldRules, sizeFieldRules, maskValueRules, maskFieldRules, rowFieldRules, endFieldRules, bodyRules, readRules};
+ghost use Rattle.record_format.specs.Reading.{rowsIn, columnsIn, maskDue, maskRowsIn, maskColumnsIn, shapeIn, rowAt, endAt, imageIn};
+ghost use Rattle.record_format.specs.Reading.{fieldRules, cycleFieldRules, sizeFieldRules, maskValueRules, maskFieldRules, rowFieldRules, endFieldRules, bodyRules, readRules};
 ghost use Rattle.record_read.specs.Stages.{Headed, RowAt};
 
 // The mask that an empty mask field means.
@@ -186,7 +187,7 @@ fn row_field_verdict(bytes: &[u8], at: usize, i: usize, columns: usize, cycle: u
 
 // The fields of all rows.
 fn rows_verdict(bytes: &[u8], start: usize, shape: Shape) -> Verdict
-    requires { ⌜ (shape ≡ shapeIn (now bytes)) × (shape .rows ≤ mostRows) × (shape .columns ≤ mostColumns) × (start ≡ rowAt (now bytes) 0) × (start ≤ length (now bytes)) ⌝ }
+    requires { ⌜ (shape ≡ shapeIn (now bytes)) × (start ≡ rowAt (now bytes) 0) × Headed (now bytes) ⌝ }
     ensures { λ r. ⌜ verdict r ≡ firstDue (joined (rowFieldRules (now (bytes .entry))) 0 (rowsIn (now (bytes .entry)))) tt ⌝ }
 {
     let rows = shape.rows as usize;

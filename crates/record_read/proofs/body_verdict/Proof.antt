@@ -29,10 +29,7 @@ start-within : (c : tie.After-mask-due) → 15 + c .mask-due .result ≤ length 
 start-within c = omega (arith, c .mask-due .ensures, c .before .before .before .pre .whole)
 
 rows-verdict-requires : tie.Need-rows-verdict-requires
-rows-verdict-requires c κs =
-    let p = c .before .before .before .pre in
-    let e = c .before .shape-in .ensures in
-    (e, rw e (p .rows-fit), rw e (p .columns-fit), start-is c, start-within c)
+rows-verdict-requires c κs = (c .before .shape-in .ensures, start-is c, c .before .before .before .pre)
 
 enum-known-f : tie.Need-enum-known-f
 enum-known-f c = search needs

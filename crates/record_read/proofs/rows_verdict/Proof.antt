@@ -13,6 +13,7 @@ use Rattle.refusal.specs.Outcome.{Rule, firstDue}
 use Rattle.refusal.proofs.Outcome.{passed-clear, passed-on, refused-before}
 use Rattle.record_format.specs.Reading.{rowsIn, columnsIn, rowAt, rowFieldRules}
 use Rattle.record_format.proofs.Readable.{RowIn, row-clear, row-next}
+use Rattle.record_read.specs.Stages.{Headed}
 use Rattle.record_read.proofs.rows_verdict.Statement.{statement}
 use Rattle.record_read.proofs.rows_verdict.Tie as tie
 
@@ -23,6 +24,10 @@ Inv-loop bytes start shape rows columns at₀ i₀ at i =
 
 abbrev μ-loop : tie.MeasureT-loop
 μ-loop bytes start shape rows columns at₀ i₀ at i = rows - i
+
+-- the fields before the rows
+head : (c : tie.Start Inv-loop μ-loop) → Headed (c .args .bytes .now)
+head c = c .pre .2
 
 -- the sizes are the record's
 rows-are : (c : tie.Start Inv-loop μ-loop) → c .args .shape .rows ≡ rowsIn (c .args .bytes .now)
@@ -53,7 +58,8 @@ cast-columns : tie.Need-cast-columns Inv-loop μ-loop
 cast-columns c = search needs
 
 loop-holds : tie.Need-loop-holds Inv-loop μ-loop
-loop-holds c = (omega arith, c .before .before .before .pre .3, c .before .before .before .pre .4, rw sub-zero)
+unfolding rowAt
+loop-holds c = (omega arith, c .before .before .before .pre .1, omega (arith, c .before .before .before .pre .1, head (c .before .before .before) .whole), rw sub-zero)
 
 row-field-verdict-requires : tie.Need-row-field-verdict-requires Inv-loop μ-loop
 row-field-verdict-requires c κs =
@@ -62,9 +68,9 @@ row-field-verdict-requires c κs =
     record {
       offset = l .inv .1;
       inside = l .inv .2;
-      row-fits = omega (arith, s .pre .1);
+      row-fits = omega (arith, rows-are s, head s .rows-fit);
       columns-are = columns-are s;
-      columns-fit = s .pre .2;
+      columns-fit = omega (arith, columns-are s, head s .columns-fit);
       cycle-is = ap (λ (s : Shape). s .cycle) (s .pre .0);
     }
 
@@ -81,10 +87,10 @@ enum-told : tie.Need-enum-told Inv-loop μ-loop
 enum-told c = search needs
 
 mul-at : tie.Need-mul-at Inv-loop μ-loop
-mul-at c = let s = c .before .before .before .before .before .before .before .before in omega (arith, s .pre .2)
+mul-at c = let s = c .before .before .before .before .before .before .before .before in omega (arith, columns-are s, head s .columns-fit)
 
 add-at : tie.Need-add-at Inv-loop μ-loop
-add-at c = let s = c .before .before .before .before .before .before .before .before in omega (arith, s .pre .2)
+add-at c = let s = c .before .before .before .before .before .before .before .before in omega (arith, columns-are s, head s .columns-fit)
 
 add-at-2 : tie.Need-add-at-2 Inv-loop μ-loop
 add-at-2 c = let s = c .before .before .before .before .before .before .before .before in omega (arith, passed c .field .whole, columns-are s)
