@@ -53,10 +53,122 @@ def drift_call(c, row):
         return Refusal(1, 0)
     if not 1 <= len(row) <= 8192:
         return Refusal(2, 0)
-    for k, x in enumerate(row):
-        if x >= c:
-            return Refusal(9, k)
-    return drift(c, row)
+    bad = reading_fault(c, row)
+    return drift(c, row) if bad is None else Refusal(9, bad)
+
+
+def reading_fault(c, readings):
+    """The index of the first reading that is none, or None."""
+    return next((k for k, x in enumerate(readings) if x >= c), None)
+
+
+def size_fault(m, n):
+    return not 1 <= m <= 1024 or not 1 <= n <= 8192
+
+
+def mask_fault(r, t):
+    return any(side % 2 == 0 or not 1 <= side <= 255 for side in (r, t))
+
+
+def reflection_fault(m, n, r, t):
+    return (r - 1) // 2 > m or (t - 1) // 2 > n
+
+
+def shape_refusal(limit, shape):
+    """Tests 1 to 4 on a cycle, an image's size and a mask's size."""
+    c, m, n, r, t = shape
+    if not 1 <= c <= limit:
+        return Refusal(1, 0)
+    if size_fault(m, n):
+        return Refusal(2, 0)
+    if mask_fault(r, t):
+        return Refusal(3, 0)
+    if reflection_fault(m, n, r, t):
+        return Refusal(4, 0)
+    return None
+
+
+Record = namedtuple("Record", "cycle rows columns mask_rows mask_columns readings")
+
+DEFAULT_MASK = (1, 3)
+
+
+def write_record(c, m, n, r, t, readings, room):
+    """The record's bytes, or a Refusal: 1, 2, 3, 4, 6, 7, 9 in this order."""
+    refusal = shape_refusal(65535, (c, m, n, r, t))
+    if refusal:
+        return refusal
+    if len(readings) != m * n:
+        return Refusal(6, 0)
+
+    def field(tag, *numbers):
+        body = b"".join(x.to_bytes(2, "big") for x in numbers)
+        return bytes([tag]) + len(body).to_bytes(2, "big") + body
+
+    if room < 22 + m * (3 + 2 * n):
+        return Refusal(7, 0)
+    bad = reading_fault(c, readings)
+    if bad is not None:
+        return Refusal(9, bad)
+    rows = [readings[i * n:(i + 1) * n] for i in range(m)]
+    return field(1, c) + field(2, m, n) + field(3, r, t) + b"".join(field(4, *row) for row in rows) + field(255)
+
+
+class Stop(Exception):
+    """The reader stops at a refusal."""
+
+
+def read_record(record, room):
+    """What the reader makes of any bytes, with room for that many readings: a Record or a Refusal."""
+    at = 0
+
+    def stop(number, place=0):
+        raise Stop(Refusal(number, place))
+
+    def field(tag, *lengths):
+        """The numbers of the field at hand, of which one of the lengths is due."""
+        nonlocal at
+        head = record[at:at + 3]
+        if len(head) < 3:
+            stop(10, at)
+        if head[0] != tag:
+            stop(11, at)
+        length = int.from_bytes(head[1:], "big")
+        if length not in lengths:
+            stop(12, at)
+        body = record[at + 3:at + 3 + length]
+        if len(body) < length:
+            stop(10, at)
+        at += 3 + length
+        return [int.from_bytes(body[k:k + 2], "big") for k in range(0, length, 2)]
+
+    try:
+        c, = field(1, 2)
+        if c == 0:
+            stop(1)
+        m, n = field(2, 4)
+        if size_fault(m, n):
+            stop(2)
+        r, t = field(3, 0, 4) or DEFAULT_MASK
+        if mask_fault(r, t):
+            stop(3)
+        if reflection_fault(m, n, r, t):
+            stop(4)
+        if room < m * n:
+            stop(7)
+        readings = []
+        for _ in range(m):
+            row = field(4, 2 * n)
+            bad = reading_fault(c, row)
+            if bad is not None:
+                stop(9, len(readings) + bad)
+            readings += row
+        field(255, 0)
+        if at < len(record):
+            stop(13, at)
+    except Stop as refusal:
+        return refusal.args[0]
+    return Record(c, m, n, r, t, readings)
 
 
 def mirrored(size, x):
@@ -87,20 +199,6 @@ def chosen(c, centre, readings):
     return ahead if ahead in equals else behind
 
 
-def shape_refusal(limit, shape):
-    """Tests 1 to 4 on a cycle, an image's size and a mask's size."""
-    c, m, n, r, t = shape
-    if not 1 <= c <= limit:
-        return Refusal(1, 0)
-    if not (1 <= m <= 1024 and 1 <= n <= 8192):
-        return Refusal(2, 0)
-    if not (r % 2 and t % 2 and 1 <= r <= 255 and 1 <= t <= 255):
-        return Refusal(3, 0)
-    if r // 2 > m or t // 2 > n:
-        return Refusal(4, 0)
-    return None
-
-
 def filter_refusal(limit, need, shape, first, end, image, output, work):
     """Tests 1 to 9 of a filter call; need is the engine's length of work memory."""
     refusal = shape_refusal(limit, shape)
@@ -112,10 +210,8 @@ def filter_refusal(limit, need, shape, first, end, image, output, work):
     for number, passed in (6, len(image) == m * n), (7, output >= m * n), (8, work >= need(shape)):
         if not passed:
             return Refusal(number, 0)
-    for k, x in enumerate(image):
-        if x >= c:
-            return Refusal(9, k)
-    return None
+    bad = reading_fault(c, image)
+    return None if bad is None else Refusal(9, bad)
 
 
 def level_need(shape):

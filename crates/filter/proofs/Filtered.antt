@@ -2,16 +2,14 @@
 -- Assumes nothing.
 use Prim.Native.Nat.{ℕ, _+_, _*_, _≤_, _<_}
 use mathlib.Core.Path.{_≡_, sym, ap, subst, _∙_}
-use mathlib.Core.Bool.{false}
 use mathlib.Core.List.{List, _++_}
 use native.Mathlib.Omega.{arith}
 use native.Mathlib.Nat.{mul-le-mul-right}
 use lib.ListN.{length, getD}
-use Rattle.lists.proofs.Members.{each-left, each-right}
 use Rattle.lists.proofs.Written.{written-inside}
 use Rattle.refusal.specs.Limits.{longestCycle}
 use Rattle.refusal.specs.Outcome.{Rule, Clear}
-use Rattle.refusal.proofs.Outcome.{accepted-clear}
+use Rattle.refusal.proofs.Outcome.{accepted-clear, clear-split}
 use Rattle.shape.specs.Rules.{shapeRules}
 use Rattle.shape.specs.declared.Shape.{Shape}
 use Rattle.median.specs.Closest.{NoCloser, EqualIsReading}
@@ -36,15 +34,15 @@ module _ {e : Engine} {s : Shape} {first end : ℕ} {image output work output₁
   image-tests = imageRules s (e .need) first end image (length output) (length work)
 
   -- every test is clear
-  clear : Clear (shape-tests ++ image-tests)
+  clear : Clear shape-tests × Clear image-tests
   unfolding filterCall
-  clear = accepted-clear tt (shape-tests ++ image-tests) tt (sym (call .answer))
+  clear = clear-split shape-tests image-tests (accepted-clear tt (shape-tests ++ image-tests) tt (sym (call .answer)))
 
   tested : Image s (e .need) first end image (length output) (length work)
-  tested = image-clear s (e .need) first end image (length output) (length work) (each-right (λ r. r .due ≡ false) shape-tests image-tests clear)
+  tested = image-clear s (e .need) first end image (length output) (length work) (clear .1)
 
   ready : Ready (e .limit) s image
-  ready = image-ready (each-left (λ r. r .due ≡ false) shape-tests image-tests clear) tested
+  ready = image-ready (clear .0) tested
 
   module _ (i j : ℕ) (from : first ≤ i) (upto : i < end) (column : j < s .columns) where
     -- "writes, at each spot of its rows, the phase that the paper chooses"

@@ -7,6 +7,7 @@ use native.Mathlib.Omega.{arith}
 use native.Mathlib.Numerals.{add-one}
 use lib.ListN.{length, drop, getD, drop-of-length-le}
 use lib.Seq.{drop-cons}
+use Rattle.lists.specs.Members.{Each}
 use Rattle.lists.specs.First.{firstBad}
 
 module _ {A : Type 0} (good : A → Bool) where
@@ -58,3 +59,16 @@ module _ {A : Type 0} (good : A → Bool) where
     pub first-none : length xs ≤ i → firstBad good (drop i xs) ≡ 0
     unfolding firstBad
     first-none h = rw (drop-of-length-le xs h)
+
+  -- all are good exactly if the first bad one lies past the end
+  pub all-good : (xs : List A) → length xs ≤ firstBad good xs → Each (λ y. good y ≡ true) xs
+  unfolding firstBad
+  all-good [] h = tt
+  all-good (x ∷ xs) h =
+      let r : (length xs ≤ firstBad good xs → Each (λ y. good y ≡ true) xs) = all-good xs in
+      case x (λ e. (e, r (omega (arith, good-head x xs e)))) (λ e. absurd (omega (arith, bad-head x xs e)))
+
+  pub good-all : (xs : List A) → Each (λ y. good y ≡ true) xs → length xs ≤ firstBad good xs
+  unfolding firstBad
+  good-all [] e = omega arith
+  good-all (x ∷ xs) e = let r = good-all xs (e .1) in omega (arith, good-head x xs (e .0))

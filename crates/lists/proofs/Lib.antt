@@ -1,6 +1,9 @@
 pub mod Members
 pub mod Tabulate
+pub mod Joined
 pub mod Written
+pub mod Stores
+pub mod Holds
 pub mod First
 pub mod Least
 pub mod Difference

@@ -18,13 +18,9 @@ pub each-append : {A : Type 0} (P : A → Type 0) (xs ys : List A) → Each P xs
 each-append P [] ys e f = f
 each-append P (x ∷ xs) ys e f = (e .0, each-append P xs ys (e .1) f)
 
-pub each-left : {A : Type 0} (P : A → Type 0) (xs ys : List A) → Each P (xs ++ ys) → Each P xs
-each-left P [] ys h = tt
-each-left P (x ∷ xs) ys (a, h) = (a, each-left P xs ys h)
-
-pub each-right : {A : Type 0} (P : A → Type 0) (xs ys : List A) → Each P (xs ++ ys) → Each P ys
-each-right P [] ys h = h
-each-right P (x ∷ xs) ys (a, h) = each-right P xs ys h
+pub each-split : {A : Type 0} (P : A → Type 0) (xs ys : List A) → Each P (xs ++ ys) → Each P xs × Each P ys
+each-split P [] ys e = (tt, e)
+each-split P (x ∷ xs) ys e = let r = each-split P xs ys (e .1) in ((e .0, r .0), r .1)
 
 -- whether a number is an element
 pub in-dec : (y : ℕ) (xs : List ℕ) → Dec (In y xs)

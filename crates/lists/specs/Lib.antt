@@ -1,5 +1,6 @@
 pub mod Members
 pub mod Tabulate
+pub mod Joined
 pub mod First
 pub mod Least
 pub mod Difference

@@ -5,6 +5,7 @@ use mathlib.Core.Bool.{Bool, true, false}
 use mathlib.Core.List.{List, [], _∷_, _++_, append-assoc}
 use native.Mathlib.Omega.{arith}
 use borrow.Author.Tests.{lt-ltb, le-ltb, le-leb, lt-leb, eq-eqb, ne-eqb}
+use Rattle.lists.proofs.Members.{each-append, each-split}
 use Rattle.refusal.specs.declared.Refusal.{Refusal}
 use Rattle.refusal.specs.declared.Verdict.{Verdict}
 use Rattle.refusal.specs.declared.Verdict.the-variants.{Passed, Refused}
@@ -85,6 +86,13 @@ module _ {A : Type 0} (v : A) where
             number = f .number;
             place = f .place;
           }
+
+-- groups of tests are clear together exactly if each is
+pub clear-join : (xs ys : List Rule) → Clear xs → Clear ys → Clear (xs ++ ys)
+clear-join = each-append (λ r. r .due ≡ false)
+
+pub clear-split : (xs ys : List Rule) → Clear (xs ++ ys) → Clear xs × Clear ys
+clear-split = each-split (λ r. r .due ≡ false)
 
 -- How a call goes on after a group of tests whose verdict it has: what the verdict says of the group, and of a list that begins with it.
 module _ (xs : List Rule) {r : Verdict} (said : verdict r ≡ firstDue xs tt) where

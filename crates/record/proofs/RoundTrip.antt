@@ -1,0 +1,99 @@
+-- The round trip, from what the contracts of the writer and the reader promise and nothing else: what was written reads back, and
+-- what was read, with four bytes in its mask field, is written again byte by byte. Assumes nothing.
+use Prim.Native.Nat.{ℕ, _≤_, _<_}
+use mathlib.Core.Path.{_≡_, ap, sym, subst, _∙_}
+use mathlib.Core.List.{List, _++_}
+use native.Mathlib.Omega.{arith}
+use lib.ListN.{length, take, drop}
+use lib.Seq.{take-at}
+use Rattle.refusal.specs.Outcome.Outcome.{accepted, refused}
+use Rattle.refusal.proofs.Outcome.{accepted-clear, clear-accepted}
+use Rattle.shape.specs.declared.Shape.{Shape}
+use Rattle.shape.specs.Rules.{area}
+use Rattle.record_format.specs.Fields.{Bytes}
+use Rattle.record_format.specs.Record.{recordBytes, recordLength, writeRules, writeCall}
+use Rattle.record_format.specs.Reading.{maskSaid, shapeIn, imageIn, readRules, readCall}
+use Rattle.record_format.proofs.Fields.{length-record}
+use Rattle.record_format.proofs.Writable.{Writable, writable}
+use Rattle.record_format.proofs.Readable.{readable, length-image}
+use Rattle.record_format.proofs.Written.{image-back, written-read, written-short}
+use Rattle.record_format.proofs.Reread.{bytes-back, read-written}
+use Rattle.record.specs.declared.ReadAnswer.{ReadAnswer}
+use Rattle.record.specs.declared.WriteAnswer.{WriteAnswer}
+use Rattle.record.specs.declared.ReadAnswer.the-variants.{Read}
+use Rattle.record.specs.declared.WriteAnswer.the-variants.{Written}
+use Rattle.record.specs.Calls.{readTold, writeTold, Reads, Writes}
+use Rattle.record.proofs.Left.{left-accepted, left-refused}
+use Rattle.record.specs.declared.ReadAnswer.the-variants as reads
+use Rattle.record.specs.declared.WriteAnswer.the-variants as writes
+
+-- an answer is told by its outcome
+told-read : (r : ReadAnswer) (s : Shape) → readTold r ≡ accepted s → r ≡ Read s
+told-read (reads.Read t) s e = cc
+told-read (reads.Refused f) s e = let z : _≡_ {A = ℕ} 0 1 = cc in absurd (omega arith)
+
+told-written : (r : WriteAnswer) (n : ℕ) → writeTold r ≡ accepted n → r ≡ Written n
+told-written (writes.Written m) n e = cc
+told-written (writes.Refused f) n e = let z : _≡_ {A = ℕ} 0 1 = cc in absurd (omega arith)
+
+-- what it says that the writer has written: its tests were clear, and its bytes are the record's
+record HasWritten (s : Shape) (readings bytes : List ℕ) (n : ℕ) (bytes′ : List ℕ) : Type 0 where
+  tests : Writable s readings (length bytes)
+  bytes-are : take n bytes′ ≡ recordBytes s readings
+
+has-written : {s : Shape} {readings bytes : List ℕ} {n : ℕ} {bytes′ : List ℕ} → Writes s readings bytes (Written n) bytes′
+    → HasWritten s readings bytes n bytes′
+unfolding writeCall
+has-written {s} {readings} {bytes} {n} {bytes′} w =
+    let clear = accepted-clear (recordLength s) (writeRules s readings (length bytes)) n (sym (w .answer)) in
+    let t = writable s readings (length bytes) clear in
+    let e : accepted n ≡ accepted (recordLength s) = w .answer ∙ clear-accepted (recordLength s) (writeRules s readings (length bytes)) clear in
+    let n-is : n ≡ recordLength s = cc in
+    let all = w .memory ∙ left-accepted (recordBytes s readings) bytes (sym (w .answer)) in
+    record {
+      tests = t;
+      bytes-are = ap (take n) all ∙ take-at (recordBytes s readings) _ n (length-record s readings (t .input) ∙ sym n-is);
+    }
+
+module _ {s : Shape} {readings bytes : List ℕ} {n : ℕ} {bytes′ : List ℕ} {buffer : List ℕ} {r : ReadAnswer} {buffer′ : List ℕ} where
+  -- The writer returned n, and the reader is given exactly the first n bytes, with room for the readings: it returns the same five
+  -- numbers, and the buffer begins with the readings that were written; the rest of it is as it was.
+  pub reads-back : Writes s readings bytes (Written n) bytes′ → Reads (take n bytes′) buffer r buffer′ → area s ≤ length buffer
+      → (r ≡ Read s) × (buffer′ ≡ readings ++ drop (area s) buffer)
+  reads-back w i room =
+      let h = has-written w in
+      let t = h .tests in
+      let j = subst (λ (b : List ℕ). Reads b buffer r buffer′) (h .bytes-are) i in
+      let call = written-read s readings (t .input) (t .tests) (t .good) (length buffer) room in
+      let image = image-back s readings (t .input) in
+      (told-read r s (j .answer ∙ call), j .memory ∙ left-accepted (imageIn (recordBytes s readings)) buffer call ∙ rw (image, t .input))
+
+  -- with less room: 7 at 0
+  pub reads-back-short : Writes s readings bytes (Written n) bytes′ → Reads (take n bytes′) buffer r buffer′ → length buffer < area s
+      → (readTold r ≡ refused 7 0) × (buffer′ ≡ buffer)
+  reads-back-short w i room =
+      let h = has-written w in
+      let t = h .tests in
+      let j = subst (λ (b : List ℕ). Reads b buffer r buffer′) (h .bytes-are) i in
+      let call = written-short s readings (t .input) (t .tests) (t .good) (length buffer) room in
+      (j .answer ∙ call, j .memory ∙ left-refused (imageIn (recordBytes s readings)) buffer call)
+
+module _ {b buffer buffer′ : List ℕ} {s : Shape} {bytes : List ℕ} {w : WriteAnswer} {bytes′ : List ℕ} where
+  -- The reader accepted b, whose mask field says length 4, and the writer is given what was read, with room for as many bytes as b
+  -- has: it returns that number, and the bytes begin with b; the rest of them is as it was.
+  pub writes-back : Bytes b → Reads b buffer (Read s) buffer′ → maskSaid b ≡ 4 → Writes s (take (area s) buffer′) bytes w bytes′
+      → length b ≤ length bytes
+      → (w ≡ Written (length b)) × (bytes′ ≡ b ++ drop (length b) bytes)
+  unfolding readCall
+  writes-back small i four o room =
+      let clear = accepted-clear (shapeIn b) (readRules b (length buffer)) s (sym (i .answer)) in
+      let t = readable b (length buffer) clear in
+      let e : accepted s ≡ accepted (shapeIn b) = i .answer ∙ clear-accepted (shapeIn b) (readRules b (length buffer)) clear in
+      let s-is : s ≡ shapeIn b = cc in
+      let all = i .memory ∙ left-accepted (imageIn b) buffer (sym (i .answer)) in
+      let image : take (area s) buffer′ ≡ imageIn b = ap (take (area s)) all ∙ take-at (imageIn b) _ (area s) (length-image b ∙ ap area (sym s-is)) in
+      let q = subst (λ (t : Shape). Writes t (take (area s) buffer′) bytes w bytes′) s-is o in
+      let p = subst (λ (x : List ℕ). Writes (shapeIn b) x bytes w bytes′) image q in
+      let call = read-written b small (length buffer) t four (length bytes) room in
+      let back = bytes-back b small (length buffer) t four in
+      (told-written w (length b) (p .answer ∙ call), p .memory ∙ left-accepted (recordBytes (shapeIn b) (imageIn b)) bytes call ∙ rw back)

@@ -1,0 +1,45 @@
+// The bench record of document 01, "Bench record": a writer and a reader, each of which answers for
+// every input and changes no lent memory if it refuses.
+use record_read::record_verdict;
+use record_read::shape_in;
+use record_read::store_rows;
+use record_write::put_record;
+use record_write::write_verdict;
+use refusal::Refusal;
+use refusal::Verdict;
+use shape::Shape;
+ghost use Rattle.record.specs.Calls.{Writes, Reads};
+
+pub enum ReadAnswer {
+    Read(Shape),
+    Refused(Refusal),
+}
+
+// The record's length.
+pub enum WriteAnswer {
+    Written(usize),
+    Refused(Refusal),
+}
+
+// Writes a record to the front of bytes.
+pub fn write(shape: Shape, readings: &[u16], bytes: &mut [u8]) -> WriteAnswer
+    ensures { λ r. ⌜ Writes shape (now (readings .entry)) (now (bytes .entry)) r (now (bytes .exit)) ⌝ }
+{
+    match write_verdict(shape, readings, bytes.len()) {
+        Verdict::Refused(f) => WriteAnswer::Refused(f),
+        Verdict::Passed => WriteAnswer::Written(put_record(shape, readings, bytes)),
+    }
+}
+
+// Reads a record: all of it is tested before its readings are stored at the front of the buffer.
+pub fn read(bytes: &[u8], readings: &mut [u16]) -> ReadAnswer
+    ensures { λ r. ⌜ Reads (now (bytes .entry)) (now (readings .entry)) r (now (readings .exit)) ⌝ }
+{
+    match record_verdict(bytes, readings.len()) {
+        Verdict::Refused(f) => ReadAnswer::Refused(f),
+        Verdict::Passed => {
+            store_rows(bytes, readings);
+            ReadAnswer::Read(shape_in(bytes))
+        }
+    }
+}

@@ -1,0 +1,7 @@
+pub mod Fields
+pub mod Writable
+pub mod FieldRead
+pub mod Readable
+pub mod Holds
+pub mod Written
+pub mod Reread

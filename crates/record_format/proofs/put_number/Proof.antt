@@ -1,0 +1,41 @@
+-- `record_format::put_number` meets its contract. Assumes nothing.
+use native.Mathlib.Numerals.{add-one}
+use borrow.Author.Needs.{needs}
+use lib.ListN.{length-set}
+use Rattle.record_format.specs.Fields.{number}
+use Rattle.record_format.proofs.put_number.Statement.{statement}
+use Rattle.record_format.proofs.put_number.Tie as tie
+
+cast-bytes : tie.Need-cast-bytes
+cast-bytes c = search needs
+
+slice-write-bytes : tie.Need-slice-write-bytes
+slice-write-bytes c = search needs
+
+cast-bytes-2 : tie.Need-cast-bytes-2
+cast-bytes-2 c = search needs
+
+add-bytes : tie.Need-add-bytes
+add-bytes c = search needs
+
+slice-write-bytes-2 : tie.Need-slice-write-bytes-2
+slice-write-bytes-2 c = simp length-set (search needs)
+
+same-length : tie.Need-same-length
+same-length c = search needs
+
+returns : tie.Need-returns
+unfolding number
+returns c = rw (add-one (c .args .at))
+
+pub put-number-spec : {M : Type 1} → statement M
+put-number-spec =
+    tie.close
+    (tie.spec
+    cast-bytes
+    slice-write-bytes
+    cast-bytes-2
+    add-bytes
+    slice-write-bytes-2
+    same-length
+    returns)

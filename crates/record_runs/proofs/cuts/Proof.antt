@@ -1,0 +1,33 @@
+-- `record_runs::cuts` meets its contract. Assumes nothing.
+use Prim.Native.Nat.{_≤_, _-_}
+use borrow.Author.Needs.{needs}
+use Rattle.record_runs.proofs.cuts.Statement.{statement}
+use Rattle.record_runs.proofs.cuts.Tie as tie
+
+abbrev Inv-loop : tie.InvT-loop
+Inv-loop n₀ n = n ≤ 36
+
+abbrev μ-loop : tie.MeasureT-loop
+μ-loop n₀ n = 36 - n
+
+loop-holds : tie.Need-loop-holds Inv-loop μ-loop
+loop-holds c = search needs
+
+cut-requires : tie.Need-cut-requires Inv-loop μ-loop
+cut-requires c κs = search needs
+
+add-n : tie.Need-add-n Inv-loop μ-loop
+add-n c = search needs
+
+loop-less : tie.Need-loop-less Inv-loop μ-loop
+loop-less c = search needs
+
+loop-again : tie.Need-loop-again Inv-loop μ-loop
+loop-again c = search needs
+
+returns : tie.Need-returns Inv-loop μ-loop
+returns c = search needs
+
+pub cuts-spec : {M : Type 1} → statement M
+cuts-spec =
+    tie.close (tie.spec Inv-loop μ-loop loop-holds cut-requires add-n loop-less loop-again returns)
