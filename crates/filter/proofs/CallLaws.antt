@@ -52,17 +52,20 @@ image-clear s need first end image output work k = record {
   good = ltb-false _ _ (k .1 .1 .1 .1 .1 .0);
 }
 
-pub image-ready : {s : Shape} {need first end output work limit : ℕ} {image : List ℕ} → Clear (shapeRules limit s) → Image s need first end image output work → Ready limit s image
+pub image-ready : {s : Shape} {need first end output work limit : ℕ} {image : List ℕ} → Clear (shapeRules limit s)
+    → Image s need first end image output work → Ready limit s image
 image-ready k i = record { shape = k; size = i .size; good = i .good }
 
 -- the needed numbers zeroed at the end, and those beyond never changed
-pub zeroed : {w w′ : List ℕ} {need : ℕ} (w₀ : List ℕ) → need ≤ length w₀ → length w ≡ length w₀ → ((k : ℕ) → need ≤ k → getD w k 0 ≡ getD w₀ k 0) → Changed w w′ 0 need zeros
+pub zeroed : {w w′ : List ℕ} {need : ℕ} (w₀ : List ℕ) → need ≤ length w₀ → length w ≡ length w₀ → ((k : ℕ) → need ≤ k → getD w k 0 ≡ getD w₀ k 0)
+    → Changed w w′ 0 need zeros
     → w′ ≡ written (λ k. 0) 0 need w₀
 zeroed {w} {w′} {need} w₀ room len beyond x =
     ext-getD 0 w′ (written (λ k. 0) 0 need w₀) (x .len ∙ len ∙ sym (length-written (λ k. 0) 0 need w₀ (omega arith) room)) (λ k i. at k (decLt k need))
   where
     at : (k : ℕ) → Dec (k < need) → getD w′ k 0 ≡ getD (written (λ k. 0) 0 need w₀) k 0
-    at k (yes h) = ap (λ (l : ℕ). getD w′ l 0) (sym (zero-add k)) ∙ x .holds k h ∙ sym (written-inside (λ k. 0) 0 need w₀ (omega arith) room 0 k (omega arith) h)
+    at k (yes h) = ap (λ (l : ℕ). getD w′ l 0) (sym (zero-add k)) ∙ x .holds k h
+        ∙ sym (written-inside (λ k. 0) 0 need w₀ (omega arith) room 0 k (omega arith) h)
     at k (no h) = x .after k (omega arith) ∙ beyond k (omega arith) ∙ sym (written-after (λ k. 0) 0 need w₀ (omega arith) room 0 k (omega arith))
 
 -- The three ways in which a call of either engine ends, from the verdicts of its two groups of tests.
@@ -80,7 +83,8 @@ module _ (e : Engine) (s : Shape) (first end : ℕ) (image output work : List �
     unfolding filterCall
     on = passed-on (shapeRules (e .limit) s) said tt tests passed
 
-    pub image-refuses : {v : Verdict} {f : Refusal} → verdict v ≡ firstDue tests tt → v ≡ verdicts.Refused f → Call e s first end image output work (Refused f) output work
+    pub image-refuses : {v : Verdict} {f : Refusal} → verdict v ≡ firstDue tests tt → v ≡ verdicts.Refused f
+        → Call e s first end image output work (Refused f) output work
     image-refuses then is = record { answer = sym (on ∙ refused-alone tests then tt is); output = refl; work = refl }
 
     pub accepts : {v : Verdict} {output₁ work₁ : List ℕ} → verdict v ≡ firstDue tests tt → v ≡ verdicts.Passed

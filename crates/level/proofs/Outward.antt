@@ -64,7 +64,8 @@ module _ (c a : ℕ) (ha : a < c) where
     pub found-front : (e : ℕ) → e ≤ c → Passed c a sum least e → sum (front c a e) ≡ least → Chosen c a sum (candidates c) (front c a e)
     found-front e h passed is = found e (front c a e) (tick e) passed (front-near e h) is (λ q g s d ne. refl)
 
-    pub found-rear : (e : ℕ) → e ≤ c → Passed c a sum least e → (sum (front c a e) ≡ least → ⊥) → sum (rear c a e) ≡ least → Chosen c a sum (candidates c) (rear c a e)
+    pub found-rear : (e : ℕ) → e ≤ c → Passed c a sum least e → (sum (front c a e) ≡ least → ⊥) → sum (rear c a e) ≡ least
+        → Chosen c a sum (candidates c) (rear c a e)
     found-rear e h passed no-front is = found e (rear c a e) (tick (c - e)) passed (rear-near e h) is third
       where
         third : (q : ℕ) → q < c → sum q ≡ least → distance c a q ≡ e → (q ≡ rear c a e → ⊥) → rear c a e ≡ front c a e

@@ -71,7 +71,8 @@ module _ (s : Shape) (image : List ℕ) where
   pub changed-beyond : {w w′ : List ℕ} {place : ℕ} {f : ℕ → ℕ} → Changed w w′ place (s .cycle) f → place ≤ s .columns * s .cycle → Beyond s w w′
   changed-beyond x h = record { len = x .len; after = λ k g. x .after k (omega arith) }
 
-  pub turned-beyond : {w w′ : List ℕ} {place change : ℕ} {f z : ℕ → ℕ} → ChangedBoth w w′ place change (s .cycle) f z → change ≡ s .columns * s .cycle → Beyond s w w′
+  pub turned-beyond : {w w′ : List ℕ} {place change : ℕ} {f z : ℕ → ℕ} → ChangedBoth w w′ place change (s .cycle) f z → change ≡ s .columns * s .cycle
+      → Beyond s w w′
   turned-beyond x d = record { len = x .len; after = λ k g. x .after k (omega arith) }
 
 pub beyond-none : {s : Shape} {w : List ℕ} → Beyond s w w

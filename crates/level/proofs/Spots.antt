@@ -63,5 +63,6 @@ pub part : {s : Shape} {image table : List ℕ} {p l place come : ℕ} → s .cy
     → come ≡ s .cycle - getD image place 0 → Part (s .cycle) table (padded 0 s image p l) come
 part {s} {image} {table} {p} {l} {place} {come} small t o e = record {
   room = omega (arith, t .len, o .tick);
-  distances = λ q h. ap (λ (x : ℕ). getD table (x + q) 0) (e ∙ ap (λ (y : ℕ). s .cycle - y) (o .is)) ∙ table-part t (padded 0 s image p l) q (rw (o .is) at (o .tick)) h;
+  distances = λ q h. ap (λ (x : ℕ). getD table (x + q) 0) (e ∙ ap (λ (y : ℕ). s .cycle - y) (o .is))
+      ∙ table-part t (padded 0 s image p l) q (rw (o .is) at (o .tick)) h;
 }

@@ -43,7 +43,8 @@ zero-at (suc n) (suc k) = zero-at n k
 pub filling-none : {c : ℕ} → Filling c (replicate 8192 0) 0
 filling-none = record { len = length-replicate {A = ℕ} 8192 0; holds = λ l h. absurd (omega arith); small = λ l. omega (arith, zero-at 8192 l) }
 
-pub filling-turn : {c : ℕ} {table : List ℕ} {k v : ℕ} → Filling c table k → k < 8192 → 0 < c → c ≤ 4096 → v ≡ distance c (k % c) 0 → Filling c (set table k v) (k + 1)
+pub filling-turn : {c : ℕ} {table : List ℕ} {k v : ℕ} → Filling c table k → k < 8192 → 0 < c → c ≤ 4096 → v ≡ distance c (k % c) 0
+    → Filling c (set table k v) (k + 1)
 filling-turn {c} {table} {k} {v} f h some g e = record {
   len = length-set table k v ∙ f .len;
   holds = λ l i. new l i (ℕ-discrete l k);

@@ -2,7 +2,7 @@
 // lent work memory holds the sum at every tick, and after the last column the differences between one
 // row and the next, modulo 2^32. The first row of a range is set up afresh; each later row follows
 // from the one before it. Internal: the tests are the caller's.
-pub mod choice;
-pub mod columns;
+mod choice;
+mod columns;
 pub mod rows;
-pub mod table;
+mod table;

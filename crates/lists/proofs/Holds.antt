@@ -54,7 +54,8 @@ module _ {A : Type 0} {l : List A} {at : ℕ} where
     pub holds-join : (next : ℕ) → next ≡ at + length xs → Holds l at xs → Holds l next ys → Holds l at (xs ++ ys)
     holds-join next e h g = record {
       rest = g .rest;
-      is = h .is ∙ ap (λ (m : List A). xs ++ m) (sym (after l at xs (h .rest) (h .is)) ∙ ap (λ (k : ℕ). drop k l) (sym e) ∙ g .is) ∙ sym (append-assoc xs ys (g .rest));
+      is = h .is ∙ ap (λ (m : List A). xs ++ m) (sym (after l at xs (h .rest) (h .is)) ∙ ap (λ (k : ℕ). drop k l) (sym e) ∙ g .is)
+          ∙ sym (append-assoc xs ys (g .rest));
       inside = h .inside;
     }
 
@@ -80,7 +81,8 @@ module _ {A : Type 0} (l : List A) (f : ℕ → List A) (w : ℕ) where
       let q : suc a + k ≡ a + suc k = omega arith in
       rw (p, q) at r
 
-  pub parts-hold : (n at : ℕ) → ((i : ℕ) → i < n → length (f i) ≡ w) → at ≤ length l → ((i : ℕ) → i < n → Holds l (at + i * w) (f i)) → Holds l at (joined f 0 n)
+  pub parts-hold : (n at : ℕ) → ((i : ℕ) → i < n → length (f i) ≡ w) → at ≤ length l → ((i : ℕ) → i < n → Holds l (at + i * w) (f i))
+      → Holds l at (joined f 0 n)
   unfolding joined
   parts-hold zero at e g h = holds-none l at g
   parts-hold (suc n) at e g h =

@@ -90,7 +90,8 @@ module _ {A : Type 0} (f : ℕ → A) (a b : ℕ) (l : List A) (order : a ≤ b)
 -- places set one after the other
 pub written-join : {A : Type 0} (d : A) (f : ℕ → A) (a b e : ℕ) (l : List A) → a ≤ b → b ≤ e → e ≤ length l → written f b e (written f a b l) ≡ written f a e l
 written-join {A} d f a b e l h g room =
-    ext-getD d _ _ (length-written f b e (written f a b l) g m-room ∙ inner ∙ sym (length-written f a e l (omega arith) room)) (λ k i. at k (decLt k a) (decLt k b) (decLt k e))
+    ext-getD d _ _ (length-written f b e (written f a b l) g m-room ∙ inner ∙ sym (length-written f a e l (omega arith) room))
+    (λ k i. at k (decLt k a) (decLt k b) (decLt k e))
   where
     inner : length (written f a b l) ≡ length l
     inner = length-written f a b l h (omega arith)
@@ -100,7 +101,8 @@ written-join {A} d f a b e l h g room =
 
     at : (k : ℕ) → Dec (k < a) → Dec (k < b) → Dec (k < e) → getD (written f b e (written f a b l)) k d ≡ getD (written f a e l) k d
     at k (yes p) q r =
-        written-before f b e (written f a b l) g m-room d k (omega arith) ∙ written-before f a b l h (omega arith) d k p ∙ sym (written-before f a e l (omega arith) room d k p)
+        written-before f b e (written f a b l) g m-room d k (omega arith) ∙ written-before f a b l h (omega arith) d k p
+        ∙ sym (written-before f a e l (omega arith) room d k p)
     at k (no p) (yes q) r =
         written-before f b e (written f a b l) g m-room d k q ∙ written-inside f a b l h (omega arith) d k (omega arith) q
         ∙ sym (written-inside f a e l (omega arith) room d k (omega arith) (omega arith))

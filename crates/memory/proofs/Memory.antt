@@ -45,7 +45,8 @@ module _ {w₀ : List ℕ} {base other : ℕ} {f g : ℕ → ℕ} where
   both-turn {w} {q} {u} {v} c order room d e = record {
     len = length-set x (base + q) u ∙ length-set w (other + q) v ∙ c .len;
     before = λ k h. outside k (omega arith) (omega arith) ∙ c .before k h;
-    first = holds-turn x base q f u (λ k h. getD-set-other w (other + q) (base + k) v 0 (omega arith) ∙ c .first k h) (omega (arith, length-set w (other + q) v, c .len)) d;
+    first = holds-turn x base q f u (λ k h. getD-set-other w (other + q) (base + k) v 0 (omega arith) ∙ c .first k h)
+        (omega (arith, length-set w (other + q) v, c .len)) d;
     between = λ k h i. outside k (omega arith) (omega arith) ∙ c .between k (omega arith) i;
     second = λ k h. getD-set-other x (base + q) (other + k) u 0 (omega arith) ∙ holds-turn w other q g v (c .second) (omega (arith, c .len)) e k h;
     after = λ k h. outside k (omega arith) (omega arith) ∙ c .after k (omega arith);

@@ -33,7 +33,8 @@ holds-numbers b at xs n e h =
     ext-getD 0 (numbersAt b at n) xs (length-numbers-at b at n ∙ sym e)
     (λ k g. let i : k < n = omega (arith, length-numbers-at b at n) in getD-numbers-at b at n k i ∙ holds-number-of b at xs h k (omega arith))
 
-pub holds-field : {b : List ℕ} {at : ℕ} (tag : ℕ) (body : List ℕ) (n : ℕ) → length body ≡ n → Holds b at (field tag body) → FieldAt b at tag n × Holds b (at + 3) body
+pub holds-field : {b : List ℕ} {at : ℕ} (tag : ℕ) (body : List ℕ) (n : ℕ) → length body ≡ n → Holds b at (field tag body)
+    → FieldAt b at tag n × Holds b (at + 3) body
 unfolding field
 holds-field {b} {at} tag body n e h =
     let tail = holds-next (tag ∷ []) (number (length body) ++ body) (at + 1) refl h in
@@ -67,7 +68,8 @@ module _ (b : List ℕ) (bytes : Bytes b) where
       let x = numberAt b (at + 2 * n) in
       let before = numbersAt b at n in
       let e : numbersAt b at (suc n) ≡ before ++ (x ∷ []) = ap (numbersAt b at) (sym (add-one n)) ∙ numbers-at-last b at n in
-      let f : numbers (numbersAt b at (suc n)) ≡ numbers before ++ number x = ap numbers e ∙ numbers-append before (x ∷ []) ∙ ap (λ (l : List ℕ). numbers before ++ l) (append-nil (number x)) in
+      let f : numbers (numbersAt b at (suc n)) ≡ numbers before ++ number x = ap numbers e ∙ numbers-append before (x ∷ [])
+      ∙ ap (λ (l : List ℕ). numbers before ++ l) (append-nil (number x)) in
       subst (Holds b at) (sym f)
       (holds-join (numbers before) (number x) (at + 2 * n) (omega (arith, length-numbers before, length-numbers-at b at n))
       (numbers-hold at n (omega arith)) (number-holds (at + 2 * n) (omega arith)))

@@ -53,7 +53,9 @@ module _ (bytes : List ℕ) where
   pub clear-row : (i : ℕ) → RowIn bytes i → Clear (rowFieldRules bytes i)
   unfolding rowFieldRules
   clear-row i r =
-      clear-join (fieldRules bytes (rowAt bytes i) rowTag (2 * columnsIn bytes)) (placedAfter (i * columnsIn bytes) (readingRule (cycleIn bytes) (rowIn bytes i)) ∷ []) (clear-field bytes (rowAt bytes i) rowTag (2 * columnsIn bytes) (r .field))
+      clear-join (fieldRules bytes (rowAt bytes i) rowTag (2 * columnsIn bytes))
+      (placedAfter (i * columnsIn bytes) (readingRule (cycleIn bytes) (rowIn bytes i)) ∷ [])
+      (clear-field bytes (rowAt bytes i) rowTag (2 * columnsIn bytes) (r .field))
       (le-ltb (firstBad (isReading (cycleIn bytes)) (rowIn bytes i)) (length (rowIn bytes i)) (r .good), tt)
 
   -- the row fields lie within the bytes
@@ -96,7 +98,8 @@ module _ (bytes : List ℕ) (room : ℕ) where
         cycle = field-clear bytes 0 cycleTag 2 (cycle .0);
         size = field-clear bytes 5 sizeTag 4 (size .0);
         mask = field-clear bytes 12 maskTag (maskDue bytes) (mask .0);
-        shape = clear-join (cycleRules longestCycle (s .cycle)) (sizeRules (s .rows) (s .columns) ++ (sides ++ reflection)) (cycle .1) (clear-join (sizeRules (s .rows) (s .columns)) (sides ++ reflection) (size .1) (clear-join sides reflection (values .0) (reach .0)));
+        shape = clear-join (cycleRules longestCycle (s .cycle)) (sizeRules (s .rows) (s .columns) ++ (sides ++ reflection)) (cycle .1)
+            (clear-join (sizeRules (s .rows) (s .columns)) (sides ++ reflection) (size .1) (clear-join sides reflection (values .0) (reach .0)));
         buffer = ltb-false room (area s) (reach .1 .0);
         rows = λ i h. row-clear bytes i (each-in-joined (rowFieldRules bytes) Quiet 0 (rowsIn bytes) (four .0) i (omega arith) (omega arith));
         end = field-clear bytes (endAt bytes) endTag 0 (end .0);
@@ -123,4 +126,5 @@ module _ (bytes : List ℕ) (room : ℕ) where
       (clear-join (fieldRules bytes 12 maskTag (maskDue bytes)) (maskValueRules s room) (clear-field bytes 12 maskTag (maskDue bytes) (r .mask))
       (clear-join sides (reflection ++ buffer) (three .0) (clear-join reflection buffer (three .1) (le-ltb room (area s) (r .buffer), tt))))
       (clear-join (joined (rowFieldRules bytes) 0 (rowsIn bytes)) (endFieldRules bytes) rows
-      (clear-join (fieldRules bytes (endAt bytes) endTag 0) trailing (clear-field bytes (endAt bytes) endTag 0 (r .end)) (le-ltb (endAt bytes + 3) (length bytes) (r .last), tt)))))
+      (clear-join (fieldRules bytes (endAt bytes) endTag 0) trailing (clear-field bytes (endAt bytes) endTag 0 (r .end))
+      (le-ltb (endAt bytes + 3) (length bytes) (r .last), tt)))))

@@ -106,6 +106,8 @@ module _ (b : List ℕ) (small : Bytes b) (room : ℕ) (r : Readable b room) (fo
       let s = shapeIn b in
       let image = imageIn b in
       clear-accepted (recordLength s) (writeRules s image space)
-      (clear-join (shapeRules longestCycle s) (callRules s image space) (r .shape)
-      (rw (eq-eqb (length image) (area s) (length-image b)), (le-ltb space (recordLength s) (omega (arith, length-back)), (le-ltb (firstBad (isReading (cycleIn b)) image) (length image) image-good, tt))))
+      (clear-join (shapeRules longestCycle s) (callRules s image space) (r .shape) (
+        rw (eq-eqb (length image) (area s) (length-image b)),
+        (le-ltb space (recordLength s) (omega (arith, length-back)), (le-ltb (firstBad (isReading (cycleIn b)) image) (length image) image-good, tt)),
+      ))
       ∙ ap accepted length-back

@@ -60,7 +60,8 @@ module _ (s : Shape) (readings : List ℕ) (input : length readings ≡ area s) 
         size = holds-first two (three ++ (rowFields ++ five)) b;
         mask = holds-first three (rowFields ++ five) c;
         rows = holds-first rowFields five d;
-        end = holds-next rowFields five (19 + s .rows * (3 + 2 * s .columns)) (omega (arith, length-row-fields (s .columns) readings (s .rows) (s .rows) (omega arith) input)) d;
+        end = holds-next rowFields five (19 + s .rows * (3 + 2 * s .columns))
+            (omega (arith, length-row-fields (s .columns) readings (s .rows) (s .rows) (omega arith) input)) d;
       }
 
   cycle-field : FieldAt bytes 0 cycleTag 2 × Holds bytes 3 (numbers (s .cycle ∷ []))
@@ -80,7 +81,8 @@ module _ (s : Shape) (readings : List ℕ) (input : length readings ≡ area s) 
   unfolding numbersAt
   shape-back =
       let one : numberAt bytes 3 ∷ [] ≡ s .cycle ∷ [] = holds-numbers bytes 3 (s .cycle ∷ []) 1 refl (cycle-field .1) in
-      let two : numberAt bytes 8 ∷ numberAt bytes 10 ∷ [] ≡ s .rows ∷ s .columns ∷ [] = holds-numbers bytes 8 (s .rows ∷ s .columns ∷ []) 2 refl (size-field .1) in
+      let two : numberAt bytes 8 ∷ numberAt bytes 10 ∷ [] ≡ s .rows ∷ s .columns ∷ [] = holds-numbers bytes 8 (s .rows ∷ s .columns ∷ []) 2 refl
+      (size-field .1) in
       let three : numberAt bytes 15 ∷ numberAt bytes 17 ∷ [] ≡ s .«mask_rows» ∷ s .«mask_columns» ∷ [] =
       holds-numbers bytes 15 (s .«mask_rows» ∷ s .«mask_columns» ∷ []) 2 refl (mask-field .1) in
       let c : cycleIn bytes ≡ s .cycle = cc in
@@ -106,7 +108,8 @@ module _ (s : Shape) (readings : List ℕ) (input : length readings ≡ area s) 
   row-field i h =
       let row = rowOf (s .columns) readings i in
       let n = length-row (s .columns) readings i (s .rows) h input in
-      let here = holds-part bytes (rowField (s .columns) readings) (3 + 2 * s .columns) 0 (s .rows) 19 i (λ k g j. length-row-field (s .columns) readings k (s .rows) (omega arith) input) (parts .rows) h in
+      let here = holds-part bytes (rowField (s .columns) readings) (3 + 2 * s .columns) 0 (s .rows) 19 i
+      (λ k g j. length-row-field (s .columns) readings k (s .rows) (omega arith) input) (parts .rows) h in
       let f = holds-field rowTag (numbers row) (2 * s .columns) (omega (arith, length-numbers row)) (rw zero-add at here) in
       rw (row-at i, columns-back) (f .0, holds-numbers bytes (19 + i * (3 + 2 * s .columns) + 3) row (s .columns) n (f .1))
 
@@ -126,7 +129,8 @@ module _ (s : Shape) (readings : List ℕ) (input : length readings ≡ area s) 
     row-good : (i : ℕ) → i < s .rows → RowIn bytes i
     row-good i h =
         let each = all-good (isReading (s .cycle)) readings good in
-        let whole : joined (rowOf (s .columns) readings) 0 (s .rows) ≡ readings = joined-parts (s .columns) readings (s .rows) ∙ take-all (s .rows * s .columns) readings (omega arith) in
+        let whole : joined (rowOf (s .columns) readings) 0 (s .rows) ≡ readings = joined-parts (s .columns) readings (s .rows)
+        ∙ take-all (s .rows * s .columns) readings (omega arith) in
         let P : (ℕ → Type 0) = λ y. isReading (s .cycle) y ≡ true in
         let row = each-in-joined (rowOf (s .columns) readings) P 0 (s .rows) (subst (Each P) (sym whole) each) i (omega arith) (omega arith) in
         let c : cycleIn bytes ≡ s .cycle = ap (λ (t : Shape). t .cycle) shape-back in

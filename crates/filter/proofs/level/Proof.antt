@@ -19,7 +19,8 @@ accepted c =
     let a = c .before .before .before .before .before .before .before .before .before .before .before .args in
     let need = a .shape .cycle * (a .shape .columns + 1) in
     image-clear (a .shape) need (a .first) (a .end) (a .input .now) (length (a .output .now)) (length (a .work .now))
-    (passed-clear (imageRules (a .shape) need (a .first) (a .end) (a .input .now) (length (a .output .now)) (length (a .work .now))) (c .before .before .image-verdict .ensures) (c .enum-told2 .given .1))
+    (passed-clear (imageRules (a .shape) need (a .first) (a .end) (a .input .now) (length (a .output .now)) (length (a .work .now)))
+    (c .before .before .image-verdict .ensures) (c .enum-told2 .given .1))
 
 shape-verdict-requires : tie.Need-shape-verdict-requires
 shape-verdict-requires c κs = search needs
@@ -40,7 +41,8 @@ add-need : tie.Need-add-need
 add-need c = search needs
 
 mul-need : tie.Need-mul-need
-mul-need c = let s = c .before .before .before .before .before .before .before .before .args .shape in record { fits = product-fits (s .cycle) (s .columns + 1) (omega arith) (omega arith) }
+mul-need c = let s = c .before .before .before .before .before .before .before .before .args .shape
+    in record { fits = product-fits (s .cycle) (s .columns + 1) (omega arith) (omega arith) }
 
 image-verdict-requires : tie.Need-image-verdict-requires
 image-verdict-requires c κs = search needs
@@ -55,9 +57,12 @@ fill-requires : tie.Need-fill-requires
 fill-requires c κs =
     let s = c .before .before .before .before .before .before .before .before .before .before .before .before .before in
     let a = s .args in
-    let k = passed-clear (shapeRules levelCycle (a .shape)) (c .before .before .before .before .before .before .before .before .before .shape-verdict .ensures) (c .before .before .before .before .before .before .before .enum-told .given .1) in
+    let k = passed-clear (shapeRules levelCycle (a .shape))
+    (c .before .before .before .before .before .before .before .before .before .shape-verdict .ensures)
+    (c .before .before .before .before .before .before .before .enum-told .given .1) in
     let i = accepted (c .before .before) in
-    let room : a .shape .columns * a .shape .cycle + a .shape .cycle ≤ length (a .work .now) = omega (arith, i .work-room, mul-comm (a .shape .columns) (a .shape .cycle)) in
+    let room : a .shape .columns * a .shape .cycle + a .shape .cycle ≤ length (a .work .now) =
+    omega (arith, i .work-room, mul-comm (a .shape .columns) (a .shape .cycle)) in
     (record { ready = image-ready k i; room = room }, (i .order, i .within, i .output-room))
 
 clear-requires : tie.Need-clear-requires
@@ -71,13 +76,17 @@ returns : tie.Need-returns
 returns c =
     let s = c .before .before .before .before .before .before .before in
     let a = s .args in
-    shape-refuses (levelEngine (a .shape)) (a .shape) (a .first) (a .end) (a .input .now) (a .output .now) (a .work .now) (c .before .before .before .shape-verdict .ensures) (c .before .f .given .1)
+    shape-refuses (levelEngine (a .shape)) (a .shape) (a .first) (a .end) (a .input .now) (a .output .now) (a .work .now)
+    (c .before .before .before .shape-verdict .ensures) (c .before .f .given .1)
 
 returns-2 : tie.Need-returns-2
 returns-2 c =
     let s = c .before .before .before .before .before .before .before .before .before .before .before .before in
     let a = s .args in
-    image-refuses (levelEngine (a .shape)) (a .shape) (a .first) (a .end) (a .input .now) (a .output .now) (a .work .now) (c .before .before .before .before .before .before .before .before .shape-verdict .ensures) (c .before .before .before .before .before .before .enum-told .given .1) (c .before .before .before .image-verdict .ensures) (c .before .f2 .given .1)
+    image-refuses (levelEngine (a .shape)) (a .shape) (a .first) (a .end) (a .input .now) (a .output .now) (a .work .now)
+    (c .before .before .before .before .before .before .before .before .shape-verdict .ensures)
+    (c .before .before .before .before .before .before .enum-told .given .1) (c .before .before .before .image-verdict .ensures)
+    (c .before .f2 .given .1)
 
 same-length : tie.Need-same-length
 same-length c = search needs
@@ -91,9 +100,11 @@ returns-3 c =
     let a = s .args in
     let i = accepted (c .before .before .before .before .before .before .before .before .before .before .before) in
     let b = c .before .before .before .before .before .before .before .before .fill .ensures .1 in
-    accepts (levelEngine (a .shape)) (a .shape) (a .first) (a .end) (a .input .now) (a .output .now) (a .work .now) (c .before .before .before .before .before .before .before .before .before .before .before .before .before .before .before .before .before .before .shape-verdict .ensures) (c .before .before .before .before .before .before .before .before .before .before .before .before .before .before .before .before .enum-told .given .1) (c .before .before .before .before .before .before .before .before .before .before .before .before .before .image-verdict .ensures) (c .before .before .before .before .before .before .before .before .before .before .before .enum-told2 .given .1)
+    accepts (levelEngine (a .shape)) (a .shape) (a .first) (a .end) (a .input .now) (a .output .now) (a .work .now)
+    (c .before .before .before .before .before .before .before .before .before .before .before .before .before .before .before .before .before .before .shape-verdict .ensures) (c .before .before .before .before .before .before .before .before .before .before .before .before .before .before .before .before .enum-told .given .1) (c .before .before .before .before .before .before .before .before .before .before .before .before .before .image-verdict .ensures) (c .before .before .before .before .before .before .before .before .before .before .before .enum-told2 .given .1)
     (c .before .before .before .before .before .before .before .before .fill .ensures .0)
-    (zeroed (a .work .now) (i .work-room) (b .len) (λ k h. b .after k (omega (arith, mul-comm (a .shape .columns) (a .shape .cycle)))) (c .before .before .clear .ensures))
+    (zeroed (a .work .now) (i .work-room) (b .len) (λ k h. b .after k (omega (arith, mul-comm (a .shape .columns) (a .shape .cycle))))
+    (c .before .before .clear .ensures))
 
 pub level-spec : {M : Type 1} → statement M
 level-spec =

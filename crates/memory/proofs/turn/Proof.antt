@@ -15,7 +15,9 @@ use Rattle.memory.proofs.turn.Statement.{statement}
 use Rattle.memory.proofs.turn.Tie as tie
 
 abbrev Inv-loop : tie.InvT-loop
-Inv-loop work₀ base change table in1 in2 out1 out2 n least₀ q₀ work least q = (q ≤ n) × ChangedBoth work₀ work base change q (summed work₀ base (turned work₀ change table in1 in2 out1 out2)) (turned work₀ change table in1 in2 out1 out2) × (least ≡ lowest (summed work₀ base (turned work₀ change table in1 in2 out1 out2)) q)
+Inv-loop work₀ base change table in1 in2 out1 out2 n least₀ q₀ work least q = (q ≤ n) × ChangedBoth work₀ work base change q
+    (summed work₀ base (turned work₀ change table in1 in2 out1 out2)) (turned work₀ change table in1 in2 out1 out2) ×
+    (least ≡ lowest (summed work₀ base (turned work₀ change table in1 in2 out1 out2)) q)
 
 abbrev μ-loop : tie.MeasureT-loop
 μ-loop work₀ base change table in1 in2 out1 out2 n least₀ q₀ work least q = n - q
@@ -136,12 +138,14 @@ loop-again c =
     let y = getD (a .table .now) (a .out1 + l .q) 0 + getD (a .table .now) (a .out2 + l .q) 0 in
     let z = c .before .before .before .wrapping-sub-u32 .result in
     let fit : z < 2 ^ 32 = omega arith in
-    let new = adjusted-by-code (getD (l .work) (a .change + l .q) 0) x y _ z fit (c .before .before .before .before .before .before .wrapping-add-u32 .ensures) (c .before .before .before .wrapping-sub-u32 .ensures) in
+    let new = adjusted-by-code (getD (l .work) (a .change + l .q) 0) x y _ z fit
+    (c .before .before .before .before .before .before .wrapping-add-u32 .ensures) (c .before .before .before .wrapping-sub-u32 .ensures) in
     let change : z ≡ turned (a .work .now) (a .change) (a .table .now) (a .in1) (a .in2) (a .out1) (a .out2) (l .q) =
     new ∙ ap (λ (d : ℕ). adjusted d x y) (w .after (a .change + l .q) (omega arith)) in
     let old : getD (set (l .work) (a .change + l .q) z) (a .base + l .q) 0 ≡ getD (a .work .now) (a .base + l .q) 0 =
     getD-set-other (l .work) (a .change + l .q) (a .base + l .q) z 0 (omega arith) ∙ w .between (a .base + l .q) (omega arith) (omega arith) in
-    let sum = c .before .wrapping-add-u322 .ensures ∙ ap (λ (d : ℕ). (d + z) % 2 ^ 32) old ∙ ap (λ (d : ℕ). (getD (a .work .now) (a .base + l .q) 0 + d) % 2 ^ 32) change in
+    let sum = c .before .wrapping-add-u322 .ensures ∙ ap (λ (d : ℕ). (d + z) % 2 ^ 32) old
+    ∙ ap (λ (d : ℕ). (getD (a .work .now) (a .base + l .q) 0 + d) % 2 ^ 32) change in
     (omega arith, both-turn w (omega arith) (omega arith) sum change, lowest-turn _ (l .q) (c .lower .ensures) sum (l .inv .2))
 
 same-length : tie.Need-same-length Inv-loop μ-loop

@@ -14,19 +14,23 @@ use Rattle.record.proofs.read.Statement.{statement}
 use Rattle.record.proofs.read.Tie as tie
 
 -- what the tests said
-said : (c : tie.After-record-verdict) → let a = c .before .before .before .args in verdict (c .record-verdict .result) ≡ firstDue (readRules (a .bytes .now) (length (a .readings .now))) tt
+said : (c : tie.After-record-verdict) → let a = c .before .before .before .args in verdict (c .record-verdict .result) ≡ firstDue
+    (readRules (a .bytes .now) (length (a .readings .now))) tt
 said c = c .record-verdict .ensures
 
 -- the tests that passed, and the answer
 clear : (c : tie.After-enum-told) → let a = c .before .before .before .before .before .args in Clear (readRules (a .bytes .now) (length (a .readings .now)))
-clear c = let a = c .before .before .before .before .before .args in passed-clear (readRules (a .bytes .now) (length (a .readings .now))) (said (c .before .before)) (c .enum-told .given .1)
+clear c = let a = c .before .before .before .before .before .args in passed-clear (readRules (a .bytes .now) (length (a .readings .now)))
+    (said (c .before .before)) (c .enum-told .given .1)
 
 known : (c : tie.After-enum-told) → let a = c .before .before .before .before .before .args in Readable (a .bytes .now) (length (a .readings .now))
 known c = let a = c .before .before .before .before .before .args in readable (a .bytes .now) (length (a .readings .now)) (clear c)
 
-call : (c : tie.After-enum-told) → let a = c .before .before .before .before .before .args in readCall (a .bytes .now) (length (a .readings .now)) ≡ accepted (shapeIn (a .bytes .now))
+call : (c : tie.After-enum-told) → let a = c .before .before .before .before .before .args in readCall (a .bytes .now) (length (a .readings .now))
+    ≡ accepted (shapeIn (a .bytes .now))
 unfolding readCall
-call c = let a = c .before .before .before .before .before .args in clear-accepted (shapeIn (a .bytes .now)) (readRules (a .bytes .now) (length (a .readings .now))) (clear c)
+call c = let a = c .before .before .before .before .before .args in clear-accepted (shapeIn (a .bytes .now))
+    (readRules (a .bytes .now) (length (a .readings .now))) (clear c)
 
 record-verdict-requires : tie.Need-record-verdict-requires
 record-verdict-requires c κs = search needs
@@ -47,7 +51,8 @@ returns : tie.Need-returns
 unfolding readCall
 returns c =
     let a = c .before .before .before .before .before .before .args in
-    let e = refused-alone (readRules (a .bytes .now) (length (a .readings .now))) (said (c .before .before .before)) (shapeIn (a .bytes .now)) (c .before .f .given .1) in
+    let e = refused-alone (readRules (a .bytes .now) (length (a .readings .now))) (said (c .before .before .before)) (shapeIn (a .bytes .now))
+    (c .before .f .given .1) in
     record { answer = sym e; memory = sym (left-refused (imageIn (a .bytes .now)) (a .readings .now) e) }
 
 same-length : tie.Need-same-length

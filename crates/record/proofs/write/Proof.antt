@@ -20,14 +20,17 @@ said : (c : tie.After-write-verdict) → let a = c .before .before .before .args
 said c = c .write-verdict .ensures
 
 -- the tests that passed, and the answer
-clear : (c : tie.After-enum-told) → let a = c .before .before .before .before .before .args in Clear (writeRules (a .shape) (a .readings .now) (length (a .bytes .now)))
+clear : (c : tie.After-enum-told) → let a = c .before .before .before .before .before .args in Clear
+    (writeRules (a .shape) (a .readings .now) (length (a .bytes .now)))
 clear c =
     let a = c .before .before .before .before .before .args in
     passed-clear (writeRules (a .shape) (a .readings .now) (length (a .bytes .now))) (said (c .before .before)) (c .enum-told .given .1)
 
-call : (c : tie.After-enum-told) → let a = c .before .before .before .before .before .args in writeCall (a .shape) (a .readings .now) (length (a .bytes .now)) ≡ accepted (recordLength (a .shape))
+call : (c : tie.After-enum-told) → let a = c .before .before .before .before .before .args in writeCall (a .shape) (a .readings .now)
+    (length (a .bytes .now)) ≡ accepted (recordLength (a .shape))
 unfolding writeCall
-call c = let a = c .before .before .before .before .before .args in clear-accepted (recordLength (a .shape)) (writeRules (a .shape) (a .readings .now) (length (a .bytes .now))) (clear c)
+call c = let a = c .before .before .before .before .before .args in clear-accepted (recordLength (a .shape))
+    (writeRules (a .shape) (a .readings .now) (length (a .bytes .now))) (clear c)
 
 write-verdict-requires : tie.Need-write-verdict-requires
 write-verdict-requires c κs = search needs
@@ -45,7 +48,8 @@ returns : tie.Need-returns
 unfolding writeCall
 returns c =
     let a = c .before .before .before .before .before .before .args in
-    let e = refused-alone (writeRules (a .shape) (a .readings .now) (length (a .bytes .now))) (said (c .before .before .before)) (recordLength (a .shape)) (c .before .f .given .1) in
+    let e = refused-alone (writeRules (a .shape) (a .readings .now) (length (a .bytes .now))) (said (c .before .before .before))
+    (recordLength (a .shape)) (c .before .f .given .1) in
     record { answer = sym e; memory = sym (left-refused (recordBytes (a .shape) (a .readings .now)) (a .bytes .now) e) }
 
 same-length : tie.Need-same-length
@@ -57,7 +61,8 @@ returns-2 c =
     let a = k .before .before .before .before .before .args in
     let w = writable (a .shape) (a .readings .now) (length (a .bytes .now)) (clear k) in
     let put = c .before .before .put-record .ensures in
-    let fits : length (recordBytes (a .shape) (a .readings .now)) ≤ length (a .bytes .now) = omega (arith, length-record (a .shape) (a .readings .now) (w .input), w .bytes) in
+    let fits : length (recordBytes (a .shape) (a .readings .now)) ≤ length (a .bytes .now) =
+    omega (arith, length-record (a .shape) (a .readings .now) (w .input), w .bytes) in
     record {
       answer = rw (put .0) (sym (call k));
       memory = put .1 ∙ left-stored (recordBytes (a .shape) (a .readings .now)) (a .bytes .now) (call k) fits;

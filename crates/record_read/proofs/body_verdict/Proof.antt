@@ -50,7 +50,9 @@ add-end : tie.Need-add-end
 add-end c = search needs
 
 -- where the end field is due
-end-is : (c : tie.After-enum-told) → let s = c .before .before .before .before .shape-in .result in let b = c .before .before .before .before .before .before .args .bytes .now in 15 + c .before .before .before .mask-due .result + s .rows * (3 + 2 * s .columns) ≡ endAt b
+end-is : (c : tie.After-enum-told) → let s = c .before .before .before .before .shape-in .result in let b =
+    c .before .before .before .before .before .before .args .bytes .now in 15 + c .before .before .before .mask-due .result + s .rows
+    * (3 + 2 * s .columns) ≡ endAt b
 unfolding rowAt
 end-is c = rw (c .before .before .before .before .shape-in .ensures, c .before .before .before .mask-due .ensures)
 
@@ -78,7 +80,8 @@ returns-2 : tie.Need-returns-2
 returns-2 c =
     let k = c .before .before .before in
     let b = k .before .before .before .before .before .before .args .bytes .now in
-    c .end-field-verdict .ensures ∙ sym (passed-on (joined (rowFieldRules b) 0 (rowsIn b)) (k .before .before .rows-verdict .ensures) (tt {0}) (endFieldRules b) (k .enum-told .given .1))
+    c .end-field-verdict .ensures ∙ sym
+    (passed-on (joined (rowFieldRules b) 0 (rowsIn b)) (k .before .before .rows-verdict .ensures) (tt {0}) (endFieldRules b) (k .enum-told .given .1))
 
 pub body-verdict-spec : {M : Type 1} → statement M
 body-verdict-spec =

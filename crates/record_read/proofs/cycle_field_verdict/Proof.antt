@@ -46,7 +46,8 @@ returns-2 c =
     let k = c .before .before in
     let bytes = k .before .before .before .before .args .bytes .now in
     let on : firstDue (cycleFieldRules bytes) (tt {0}) ≡ firstDue (cycleRules longestCycle (cycleIn bytes)) tt =
-    passed-on (fieldRules bytes 0 cycleTag 2) (k .before .before .field-verdict .ensures) tt (cycleRules longestCycle (cycleIn bytes)) (k .enum-told .given .1) in
+    passed-on (fieldRules bytes 0 cycleTag 2) (k .before .before .field-verdict .ensures) tt (cycleRules longestCycle (cycleIn bytes))
+    (k .enum-told .given .1) in
     c .cycle-verdict .ensures ∙ ap (λ n. firstDue (cycleRules longestCycle n) (tt {0})) (c .before .number-at .ensures) ∙ sym on
 
 pub cycle-field-verdict-spec : {M : Type 1} → statement M

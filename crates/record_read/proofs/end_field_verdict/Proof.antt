@@ -20,7 +20,8 @@ trailing c = let a = c .before .before .before .before .args in rule (ltb (a .at
 on : (c : tie.After-enum-told) → let a = c .before .before .before .before .args in firstDue (endFieldRules (a .bytes .now)) (tt {0}) ≡ firstDue (trailing c) tt
 on c =
     let s = c .before .before .before .before in
-    rw (← (s .pre .0)) (passed-on (fieldRules (s .args .bytes .now) (s .args .at) endTag 0) (c .before .before .field-verdict .ensures) tt (trailing c) (c .enum-told .given .1))
+    rw (← (s .pre .0)) (passed-on (fieldRules (s .args .bytes .now) (s .args .at) endTag 0) (c .before .before .field-verdict .ensures) tt
+    (trailing c) (c .enum-told .given .1))
 
 field-verdict-requires : tie.Need-field-verdict-requires
 field-verdict-requires c κs = search needs
@@ -47,7 +48,8 @@ returns c =
 returns-2 : tie.Need-returns-2
 returns-2 c =
     let s = c .before .before .before .before .before in
-    rw (← (s .pre .0)) (sym (refused-before (fieldRules (s .args .bytes .now) (s .args .at) endTag 0) (c .before .before .before .field-verdict .ensures) tt _ (c .before .f .given .1)))
+    rw (← (s .pre .0)) (sym (refused-before (fieldRules (s .args .bytes .now) (s .args .at) endTag 0)
+    (c .before .before .before .field-verdict .ensures) tt _ (c .before .f .given .1)))
 
 returns-3 : tie.Need-returns-3
 unfolding firstDue

@@ -30,13 +30,15 @@ enum-told : tie.Need-enum-told
 enum-told c = search needs
 
 -- what the tests of the field said, with the length that is due
-said : (c : tie.After-field-verdict) → let bytes = c .before .before .before .before .args .bytes .now in verdict (c .field-verdict .result) ≡ firstDue (fieldRules bytes 12 maskTag (maskDue bytes)) tt
+said : (c : tie.After-field-verdict) → let bytes = c .before .before .before .before .args .bytes .now in verdict (c .field-verdict .result)
+    ≡ firstDue (fieldRules bytes 12 maskTag (maskDue bytes)) tt
 said c = rw (c .before .mask-due .ensures) at (c .field-verdict .ensures)
 
 passed : (c : tie.After-enum-told) → let bytes = c .before .before .before .before .before .before .args .bytes .now in FieldAt bytes 12 maskTag (maskDue bytes)
 passed c =
     let bytes = c .before .before .before .before .before .before .args .bytes .now in
-    field-clear bytes 12 maskTag (maskDue bytes) (passed-clear (fieldRules bytes 12 maskTag (maskDue bytes)) (said (c .before .before)) (c .enum-told .given .1))
+    field-clear bytes 12 maskTag (maskDue bytes)
+    (passed-clear (fieldRules bytes 12 maskTag (maskDue bytes)) (said (c .before .before)) (c .enum-told .given .1))
 
 shape-in-requires : tie.Need-shape-in-requires
 shape-in-requires c κs = omega (arith, passed c .whole)
@@ -53,7 +55,8 @@ returns-3 : tie.Need-returns-3
 returns-3 c =
     let k = c .before .before in
     let a = k .before .before .before .before .before .before .args in
-    let on = passed-on (fieldRules (a .bytes .now) 12 maskTag (maskDue (a .bytes .now))) (said (k .before .before)) (tt {0}) (maskValueRules (shapeIn (a .bytes .now)) (a .room)) (k .enum-told .given .1) in
+    let on = passed-on (fieldRules (a .bytes .now) 12 maskTag (maskDue (a .bytes .now))) (said (k .before .before)) (tt {0})
+    (maskValueRules (shapeIn (a .bytes .now)) (a .room)) (k .enum-told .given .1) in
     c .mask-values-verdict .ensures ∙ rw (c .before .shape-in .ensures) (sym on)
 
 pub mask-field-verdict-spec : {M : Type 1} → statement M

@@ -16,16 +16,19 @@ use Rattle.record_read.proofs.mask_values_verdict.Tie as tie
 abbrev buffer : tie.Start → List Rule
 buffer c = bufferRule (area (c .args .shape)) (c .args .room) ∷ []
 
-passed-mask : (c : tie.After-enum-told) → let s = c .before .before .before .args .shape in (ys : List Rule) → firstDue (maskRules (s .«mask_rows») (s .«mask_columns») ++ ys) (tt {0}) ≡ firstDue ys tt
+passed-mask : (c : tie.After-enum-told) → let s = c .before .before .before .args .shape in (ys : List Rule)
+    → firstDue (maskRules (s .«mask_rows») (s .«mask_columns») ++ ys) (tt {0}) ≡ firstDue ys tt
 passed-mask c ys =
     let s = c .before .before .before .args .shape in
     passed-on (maskRules (s .«mask_rows») (s .«mask_columns»)) (c .before .before .mask-verdict .ensures) tt ys (c .enum-told .given .1)
 
-passed-both : (c : tie.After-enum-told2) → let a = c .before .before .before .before .before .before .args in firstDue (maskValueRules (a .shape) (a .room)) (tt {0}) ≡ firstDue (buffer (c .before .before .before .before .before .before)) tt
+passed-both : (c : tie.After-enum-told2) → let a = c .before .before .before .before .before .before .args in firstDue
+    (maskValueRules (a .shape) (a .room)) (tt {0}) ≡ firstDue (buffer (c .before .before .before .before .before .before)) tt
 passed-both c =
     let s = c .before .before .before .before .before .before .args .shape in
     passed-mask (c .before .before .before) _
-    ∙ passed-on (reflectionRules (s .rows) (s .columns) (s .«mask_rows») (s .«mask_columns»)) (c .before .before .reflection-verdict .ensures) tt _ (c .enum-told2 .given .1)
+    ∙ passed-on (reflectionRules (s .rows) (s .columns) (s .«mask_rows») (s .«mask_columns»)) (c .before .before .reflection-verdict .ensures) tt _
+    (c .enum-told2 .given .1)
 
 mask-verdict-requires : tie.Need-mask-verdict-requires
 mask-verdict-requires c κs = search needs
@@ -72,7 +75,8 @@ returns-3 c =
     let s = c .before .before .before .before .before .before .before .args .shape in
     sym
     (passed-mask (c .before .before .before .before) _
-    ∙ refused-before (reflectionRules (s .rows) (s .columns) (s .«mask_rows») (s .«mask_columns»)) (c .before .before .before .reflection-verdict .ensures) tt _ (c .before .f2 .given .1))
+    ∙ refused-before (reflectionRules (s .rows) (s .columns) (s .«mask_rows») (s .«mask_columns»))
+    (c .before .before .before .reflection-verdict .ensures) tt _ (c .before .f2 .given .1))
 
 returns-4 : tie.Need-returns-4
 unfolding firstDue

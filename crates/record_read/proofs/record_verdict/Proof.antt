@@ -23,14 +23,16 @@ passed-cycle c =
     let k = passed-clear (cycleFieldRules b) (c .before .before .cycle-field-verdict .ensures) (c .enum-told .given .1) in
     field-clear b 0 cycleTag 2 (clear-split (fieldRules b 0 cycleTag 2) (cycleRules longestCycle (cycleIn b)) k .0)
 
-passed-size : (c : tie.After-enum-told2) → let b = c .before .before .before .before .before .before .before .args .bytes .now in FieldAt b 5 sizeTag 4 × (rowsIn b ≤ mostRows) × (columnsIn b ≤ mostColumns)
+passed-size : (c : tie.After-enum-told2) → let b = c .before .before .before .before .before .before .before .args .bytes .now in FieldAt b 5 sizeTag
+    4 × (rowsIn b ≤ mostRows) × (columnsIn b ≤ mostColumns)
 passed-size c =
     let b = c .before .before .before .before .before .before .before .args .bytes .now in
     let k = passed-clear (sizeFieldRules b) (c .before .before .size-field-verdict .ensures) (c .enum-told2 .given .1) in
     let s = clear-split (fieldRules b 5 sizeTag 4) (sizeRules (rowsIn b) (columnsIn b)) k in
     (field-clear b 5 sizeTag 4 (s .0), ltb-false mostRows (rowsIn b) (s .1 .1 .0), ltb-false mostColumns (columnsIn b) (s .1 .1 .1 .1 .0))
 
-passed-mask : (c : tie.After-enum-told3) → let b = c .before .before .before .before .before .before .before .before .before .before .args .bytes .now in FieldAt b 12 maskTag (maskDue b)
+passed-mask : (c : tie.After-enum-told3) → let b = c .before .before .before .before .before .before .before .before .before .before .args .bytes .now
+    in FieldAt b 12 maskTag (maskDue b)
 passed-mask c =
     let a = c .before .before .before .before .before .before .before .before .before .before .args in
     let b = a .bytes .now in
@@ -41,11 +43,14 @@ passed-mask c =
 after-cycle : (c : tie.After-enum-told) → let a = c .before .before .before .before .args in let b = a .bytes .now in
     firstDue (readRules b (a .room)) (tt {0}) ≡ firstDue (sizeFieldRules b ++ (maskFieldRules b (a .room) ++ bodyRules b)) tt
 unfolding readRules
-after-cycle c = passed-on (cycleFieldRules (c .before .before .before .before .args .bytes .now)) (c .before .before .cycle-field-verdict .ensures) tt _ (c .enum-told .given .1)
+after-cycle c = passed-on (cycleFieldRules (c .before .before .before .before .args .bytes .now)) (c .before .before .cycle-field-verdict .ensures) tt
+    _ (c .enum-told .given .1)
 
 after-size : (c : tie.After-enum-told2) → let a = c .before .before .before .before .before .before .before .args in let b = a .bytes .now in
     firstDue (readRules b (a .room)) (tt {0}) ≡ firstDue (maskFieldRules b (a .room) ++ bodyRules b) tt
-after-size c = after-cycle (c .before .before .before) ∙ passed-on (sizeFieldRules (c .before .before .before .before .before .before .before .args .bytes .now)) (c .before .before .size-field-verdict .ensures) tt _ (c .enum-told2 .given .1)
+after-size c = after-cycle (c .before .before .before)
+    ∙ passed-on (sizeFieldRules (c .before .before .before .before .before .before .before .args .bytes .now))
+    (c .before .before .size-field-verdict .ensures) tt _ (c .enum-told2 .given .1)
 
 cycle-field-verdict-requires : tie.Need-cycle-field-verdict-requires
 cycle-field-verdict-requires c κs = search needs
@@ -88,19 +93,22 @@ returns c =
 returns-2 : tie.Need-returns-2
 returns-2 c =
     let b = c .before .before .before .before .before .before .before .before .args .bytes .now in
-    sym (after-cycle (c .before .before .before .before) ∙ refused-before (sizeFieldRules b) (c .before .before .before .size-field-verdict .ensures) tt _ (c .before .f2 .given .1))
+    sym (after-cycle (c .before .before .before .before)
+    ∙ refused-before (sizeFieldRules b) (c .before .before .before .size-field-verdict .ensures) tt _ (c .before .f2 .given .1))
 
 returns-3 : tie.Need-returns-3
 returns-3 c =
     let a = c .before .before .before .before .before .before .before .before .before .before .before .args in
-    sym (after-size (c .before .before .before .before) ∙ refused-before (maskFieldRules (a .bytes .now) (a .room)) (c .before .before .before .mask-field-verdict .ensures) tt _ (c .before .f3 .given .1))
+    sym (after-size (c .before .before .before .before)
+    ∙ refused-before (maskFieldRules (a .bytes .now) (a .room)) (c .before .before .before .mask-field-verdict .ensures) tt _ (c .before .f3 .given .1))
 
 returns-4 : tie.Need-returns-4
 returns-4 c =
     let k = c .before in
     let a = k .before .before .before .before .before .before .before .before .before .before .args in
     c .body-verdict .ensures
-    ∙ sym (after-size (k .before .before .before) ∙ passed-on (maskFieldRules (a .bytes .now) (a .room)) (k .before .before .mask-field-verdict .ensures) tt _ (k .enum-told3 .given .1))
+    ∙ sym (after-size (k .before .before .before) ∙ passed-on (maskFieldRules (a .bytes .now) (a .room))
+    (k .before .before .mask-field-verdict .ensures) tt _ (k .enum-told3 .given .1))
 
 pub record-verdict-spec : {M : Type 1} → statement M
 record-verdict-spec =

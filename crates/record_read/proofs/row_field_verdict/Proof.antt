@@ -28,7 +28,8 @@ said : (c : tie.After-field-verdict) → let a = c .before .before .args in let 
     verdict (c .field-verdict .result) ≡ firstDue (fieldRules b (rowAt b (a .i)) rowTag (2 * columnsIn b)) tt
 said c = let p = c .before .before .pre in rw (p .offset, p .columns-are) at (c .field-verdict .ensures)
 
-passed : (c : tie.After-enum-told) → let a = c .before .before .before .before .args in let b = a .bytes .now in FieldAt b (rowAt b (a .i)) rowTag (2 * columnsIn b)
+passed : (c : tie.After-enum-told) → let a = c .before .before .before .before .args in let b = a .bytes .now in FieldAt b (rowAt b (a .i)) rowTag
+    (2 * columnsIn b)
 passed c =
     let a = c .before .before .before .before .args in
     let b = a .bytes .now in
@@ -37,9 +38,11 @@ passed c =
 
 -- the test of the readings, which follows
 abbrev readings : tie.After-enum-told → List Rule
-readings c = let a = c .before .before .before .before .args in let b = a .bytes .now in placedAfter (a .i * columnsIn b) (readingRule (cycleIn b) (rowIn b (a .i))) ∷ []
+readings c = let a = c .before .before .before .before .args in let b = a .bytes .now in placedAfter (a .i * columnsIn b)
+    (readingRule (cycleIn b) (rowIn b (a .i))) ∷ []
 
-on : (c : tie.After-enum-told) → let a = c .before .before .before .before .args in firstDue (rowFieldRules (a .bytes .now) (a .i)) (tt {0}) ≡ firstDue (readings c) tt
+on : (c : tie.After-enum-told) → let a = c .before .before .before .before .args in firstDue (rowFieldRules (a .bytes .now) (a .i)) (tt {0})
+    ≡ firstDue (readings c) tt
 unfolding rowFieldRules
 on c =
     let a = c .before .before .before .before .args in
@@ -47,7 +50,8 @@ on c =
     passed-on (fieldRules b (rowAt b (a .i)) rowTag (2 * columnsIn b)) (said (c .before .before)) tt (readings c) (c .enum-told .given .1)
 
 -- the index that was found
-found : (c : tie.After-first-bad) → let a = c .before .before .before .before .before .args in let b = a .bytes .now in c .first-bad .result ≡ firstBad (isReading (cycleIn b)) (rowIn b (a .i))
+found : (c : tie.After-first-bad) → let a = c .before .before .before .before .before .args in let b = a .bytes .now in c .first-bad .result
+    ≡ firstBad (isReading (cycleIn b)) (rowIn b (a .i))
 unfolding rowIn
 found c = let p = c .before .before .before .before .before .pre in rw (p .offset, p .columns-are, p .cycle-is) at (c .first-bad .ensures)
 

@@ -38,14 +38,17 @@ columns-are c = ap (λ (s : Shape). s .columns) (c .pre .0)
 
 -- the tests from row i on begin with those of row i
 first : (c : tie.In-loop Inv-loop μ-loop) → let l = c .before .loop in let b = c .before .before .before .before .before .args .bytes .now in
-    firstDue (joined (rowFieldRules b) 0 (rowsIn b)) (tt {0}) ≡ firstDue (rowFieldRules b (l .i) ++ joined (rowFieldRules b) (l .i + 1) (rowsIn b - (l .i + 1))) tt
+    firstDue (joined (rowFieldRules b) 0 (rowsIn b)) (tt {0}) ≡ firstDue
+    (rowFieldRules b (l .i) ++ joined (rowFieldRules b) (l .i + 1) (rowsIn b - (l .i + 1))) tt
 first c =
     let l = c .before .loop in
     let b = c .before .before .before .before .before .args .bytes .now in
-    l .inv .3 ∙ ap (λ (rs : List Rule). firstDue rs (tt {0})) (joined-first (rowFieldRules b) (l .i) (rowsIn b) (omega (arith, rows-are (c .before .before .before .before .before))))
+    l .inv .3 ∙ ap (λ (rs : List Rule). firstDue rs (tt {0}))
+    (joined-first (rowFieldRules b) (l .i) (rowsIn b) (omega (arith, rows-are (c .before .before .before .before .before))))
 
 -- the row that passed
-passed : (c : tie.After-enum-told Inv-loop μ-loop) → RowIn (c .before .before .before .before .before .before .before .before .args .bytes .now) (c .before .before .before .before .loop .i)
+passed : (c : tie.After-enum-told Inv-loop μ-loop) → RowIn (c .before .before .before .before .before .before .before .before .args .bytes .now)
+    (c .before .before .before .before .loop .i)
 passed c =
     let b = c .before .before .before .before .before .before .before .before .args .bytes .now in
     let i = c .before .before .before .before .loop .i in
@@ -59,7 +62,12 @@ cast-columns c = search needs
 
 loop-holds : tie.Need-loop-holds Inv-loop μ-loop
 unfolding rowAt
-loop-holds c = (omega arith, c .before .before .before .pre .1, omega (arith, c .before .before .before .pre .1, head (c .before .before .before) .whole), rw sub-zero)
+loop-holds c = (
+  omega arith,
+  c .before .before .before .pre .1,
+  omega (arith, c .before .before .before .pre .1, head (c .before .before .before) .whole),
+  rw sub-zero,
+)
 
 row-field-verdict-requires : tie.Need-row-field-verdict-requires Inv-loop μ-loop
 row-field-verdict-requires c κs =
@@ -112,7 +120,8 @@ loop-again c =
       omega arith,
       omega (arith, row-next b i),
       omega arith,
-      first k ∙ passed-on (rowFieldRules b i) (c .before .before .row-field-verdict .ensures) (tt {0}) (joined (rowFieldRules b) (i + 1) (rowsIn b - (i + 1))) (c .enum-told .given .1),
+      first k ∙ passed-on (rowFieldRules b i) (c .before .before .row-field-verdict .ensures) (tt {0})
+          (joined (rowFieldRules b) (i + 1) (rowsIn b - (i + 1))) (c .enum-told .given .1),
     )
 
 returns-2 : tie.Need-returns-2 Inv-loop μ-loop

@@ -51,7 +51,8 @@ returns-2 c =
     let k = c .before .before .before in
     let bytes = k .before .before .before .before .args .bytes .now in
     let on : firstDue (sizeFieldRules bytes) (tt {0}) ≡ firstDue (sizeRules (rowsIn bytes) (columnsIn bytes)) tt =
-    passed-on (fieldRules bytes 5 sizeTag 4) (k .before .before .field-verdict .ensures) tt (sizeRules (rowsIn bytes) (columnsIn bytes)) (k .enum-told .given .1) in
+    passed-on (fieldRules bytes 5 sizeTag 4) (k .before .before .field-verdict .ensures) tt (sizeRules (rowsIn bytes) (columnsIn bytes))
+    (k .enum-told .given .1) in
     c .size-verdict .ensures
     ∙ rw (c .before .before .number-at .ensures, c .before .number-at2 .ensures) (sym on)
 

@@ -51,7 +51,8 @@ loop-again c =
     let bytes = a .bytes .now in (
       omega arith,
       rw (numbers-at-last bytes (a .at) (l .k))
-          (stored-more (l .inv .1) (a .start + l .k) (numberAt bytes (a .at + 2 * l .k) ∷ []) (omega (arith, length-numbers-at bytes (a .at) (l .k))) (rw (c .number-at .ensures))),
+          (stored-more (l .inv .1) (a .start + l .k) (numberAt bytes (a .at + 2 * l .k) ∷ []) (omega (arith, length-numbers-at bytes (a .at) (l .k)))
+          (rw (c .number-at .ensures))),
     )
 
 same-length : tie.Need-same-length Inv-loop μ-loop

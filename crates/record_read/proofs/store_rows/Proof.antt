@@ -94,7 +94,9 @@ loop-again c =
     rw n (omega (arith, length-joined (rowIn b) (columnsIn b) 0 (l .i) (λ j h g. length-row-in b j))) in (
       omega arith,
       omega (arith, row-next b (l .i)),
-      rw (joined-more (rowIn b) (l .i)) (stored-more (l .inv .2) (l .i * k .before .before .before .number-at2 .result) (rowIn b (l .i)) next (rw row at (c .before .before .store-numbers .ensures))),
+      rw (joined-more (rowIn b) (l .i))
+          (stored-more (l .inv .2) (l .i * k .before .before .before .number-at2 .result) (rowIn b (l .i)) next
+          (rw row at (c .before .before .store-numbers .ensures))),
     )
 
 same-length : tie.Need-same-length Inv-loop μ-loop
@@ -104,7 +106,8 @@ returns : tie.Need-returns Inv-loop μ-loop
 unfolding imageIn
 returns c =
     let l = c .before .loop in
-    let e : l .i ≡ rowsIn (c .before .before .before .before .before .before .before .args .bytes .now) = omega (arith, c .before .before .before .before .number-at .ensures) in
+    let e : l .i ≡ rowsIn (c .before .before .before .before .before .before .before .args .bytes .now) =
+    omega (arith, c .before .before .before .before .number-at .ensures) in
     rw (← e) (l .inv .2 .is)
 
 pub store-rows-spec : {M : Type 1} → statement M

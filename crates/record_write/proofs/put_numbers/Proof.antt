@@ -50,8 +50,11 @@ loop-again c =
     let l = c .before .before .before .before .before .before .loop in
     let a = c .before .before .before .before .before .before .before .before .before .args in
     let next : a .at + 2 * l .k ≡ a .at + length (numbers (take (l .k) (a .row .now))) =
-    omega (arith, length-numbers (take (l .k) (a .row .now)), length-take (l .k) (a .row .now)) in
-    (omega arith, rw (numbers-last (a .row .now) (l .k) (omega arith)) (stored-more (l .inv .1) (a .at + 2 * l .k) (number (getD (a .row .now) (l .k) 0)) next (c .before .before .put-number .ensures)))
+    omega (arith, length-numbers (take (l .k) (a .row .now)), length-take (l .k) (a .row .now)) in (
+      omega arith,
+      rw (numbers-last (a .row .now) (l .k) (omega arith))
+          (stored-more (l .inv .1) (a .at + 2 * l .k) (number (getD (a .row .now) (l .k) 0)) next (c .before .before .put-number .ensures)),
+    )
 
 same-length : tie.Need-same-length Inv-loop μ-loop
 same-length c = search needs

@@ -37,11 +37,13 @@ cast-put-rows-2 c = search needs
 
 put-rows-requires : tie.Need-put-rows-requires
 unfolding recordLength
-put-rows-requires c κs = let w = known (c .before .before .before .before .before .before .before .before .before .before .before .before .before .before .before .before .before) in omega arith
+put-rows-requires c κs = let w = known
+    (c .before .before .before .before .before .before .before .before .before .before .before .before .before .before .before .before .before) in omega arith
 
 put-head-requires : tie.Need-put-head-requires
 unfolding recordLength
-put-head-requires c κs = let w = known (c .before .before .before .before .before .before .before .before .before .before .before .before .before .before .before .before .before .before .before .before .before) in omega arith
+put-head-requires c κs = let w = known
+    (c .before .before .before .before .before .before .before .before .before .before .before .before .before .before .before .before .before .before .before .before .before) in omega arith
 
 add-result : tie.Need-add-result
 unfolding recordLength
@@ -58,10 +60,14 @@ returns c =
     let s = start .args .shape in
     let readings = start .args .readings .now in
     let bytes = start .args .bytes .now in
-    let one : Stored bytes 0 (field cycleTag (numbers (s .cycle ∷ []))) _ = stored (c .before .before .before .before .before .before .before .before .before .before .before .before .before .before .before .before .before .before .before .before .put-one .ensures) in
-    let two = stored-more one 5 (field sizeTag (numbers (s .rows ∷ s .columns ∷ []))) refl (c .before .before .before .before .before .before .before .before .before .before .before .before .before .before .before .before .put-two .ensures) in
-    let three = stored-more two 12 (field maskTag (numbers (s .«mask_rows» ∷ s .«mask_columns» ∷ []))) refl (c .before .before .before .before .before .before .before .before .before .before .before .before .put-two2 .ensures) in
-    let rows = stored-more three 19 (joined (rowField (s .columns) readings) 0 (s .rows)) refl (c .before .before .before .before .before .before .put-rows .ensures .1) in
+    let one : Stored bytes 0 (field cycleTag (numbers (s .cycle ∷ []))) _ = stored
+    (c .before .before .before .before .before .before .before .before .before .before .before .before .before .before .before .before .before .before .before .before .put-one .ensures) in
+    let two = stored-more one 5 (field sizeTag (numbers (s .rows ∷ s .columns ∷ []))) refl
+    (c .before .before .before .before .before .before .before .before .before .before .before .before .before .before .before .before .put-two .ensures) in
+    let three = stored-more two 12 (field maskTag (numbers (s .«mask_rows» ∷ s .«mask_columns» ∷ []))) refl
+    (c .before .before .before .before .before .before .before .before .before .before .before .before .put-two2 .ensures) in
+    let rows = stored-more three 19 (joined (rowField (s .columns) readings) 0 (s .rows)) refl
+    (c .before .before .before .before .before .before .put-rows .ensures .1) in
     let end = c .before .before .before .before .before .before .put-rows .ensures .0 in
     let all = stored-more rows (c .before .before .before .before .before .before .put-rows .result) (field endTag [])
     (omega (arith, length-row-fields (s .columns) readings (s .rows) (s .rows) (omega arith) (w .input))) (c .before .before .put-head .ensures) in

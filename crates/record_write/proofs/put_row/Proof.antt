@@ -32,7 +32,8 @@ returns : tie.Need-returns
 returns c =
     let a = c .before .before .before .before .before .before .before .before .before .before .args in
     let row = a .row .now in
-    let head : Stored (a .bytes .now) (a .at) (rowTag ∷ number (2 * length row)) _ = stored (c .before .before .before .before .before .before .put-head .ensures) in
+    let head : Stored (a .bytes .now) (a .at) (rowTag ∷ number (2 * length row)) _ = stored
+    (c .before .before .before .before .before .before .put-head .ensures) in
     let whole = stored-more head (a .at + 3) (numbers row) (omega (arith, length-number (2 * length row))) (c .before .before .put-numbers .ensures) in
     rw (field-is rowTag (numbers row) (2 * length row) (length-numbers row)) at (whole .is)
 

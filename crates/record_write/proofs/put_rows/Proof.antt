@@ -77,7 +77,8 @@ loop-again c =
       omega arith,
       omega arith,
       omega arith,
-      rw (joined-more (rowField (a .columns) (a .readings .now)) (l .i)) (stored-more (l .inv .3) (l .at) (rowField (a .columns) (a .readings .now) (l .i)) next (rw row-is at (c .before .before .put-row .ensures))),
+      rw (joined-more (rowField (a .columns) (a .readings .now)) (l .i))
+          (stored-more (l .inv .3) (l .at) (rowField (a .columns) (a .readings .now) (l .i)) next (rw row-is at (c .before .before .put-row .ensures))),
     )
 
 same-length : tie.Need-same-length Inv-loop μ-loop

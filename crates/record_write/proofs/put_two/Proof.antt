@@ -30,7 +30,8 @@ returns : tie.Need-returns
 unfolding field numbers number
 returns c =
     let a = c .before .before .before .before .before .before .before .before .before .before .before .before .before .args in
-    let head : Stored (a .bytes .now) (a .at) (a .tag ∷ number 4) _ = stored (c .before .before .before .before .before .before .before .before .before .before .put-head .ensures) in
+    let head : Stored (a .bytes .now) (a .at) (a .tag ∷ number 4) _ = stored
+    (c .before .before .before .before .before .before .before .before .before .before .put-head .ensures) in
     let first = stored-more head (a .at + 3) (number (a .x)) (omega arith) (c .before .before .before .before .before .before .put-number .ensures) in
     stored-more first (a .at + 5) (number (a .y)) (omega arith) (c .before .before .put-number2 .ensures) .is
 

@@ -15,14 +15,17 @@ use Rattle.record_write.proofs.write_verdict.Tie as tie
 
 -- the tests of the shape that passed
 clear : (c : tie.After-enum-told) → Clear (shapeRules longestCycle (c .before .before .before .before .args .shape))
-clear c = passed-clear (shapeRules longestCycle (c .before .before .before .before .args .shape)) (c .before .before .shape-verdict .ensures) (c .enum-told .given .1)
+clear c = passed-clear (shapeRules longestCycle (c .before .before .before .before .args .shape)) (c .before .before .shape-verdict .ensures)
+    (c .enum-told .given .1)
 
 -- the tests that follow
 abbrev rest : tie.After-enum-told → List Rule
 rest c = let a = c .before .before .before .before .args in callRules (a .shape) (a .readings .now) (a .room)
 
-on : (c : tie.After-enum-told) → let a = c .before .before .before .before .args in firstDue (writeRules (a .shape) (a .readings .now) (a .room)) (tt {0}) ≡ firstDue (rest c) tt
-on c = let a = c .before .before .before .before .args in after-clear tt (shapeRules longestCycle (a .shape)) (callRules (a .shape) (a .readings .now) (a .room)) (clear c)
+on : (c : tie.After-enum-told) → let a = c .before .before .before .before .args in firstDue (writeRules (a .shape) (a .readings .now) (a .room))
+    (tt {0}) ≡ firstDue (rest c) tt
+on c = let a = c .before .before .before .before .args in after-clear tt (shapeRules longestCycle (a .shape))
+    (callRules (a .shape) (a .readings .now) (a .room)) (clear c)
 
 shape-verdict-requires : tie.Need-shape-verdict-requires
 shape-verdict-requires c κs = search needs

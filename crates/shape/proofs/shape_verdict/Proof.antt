@@ -12,7 +12,8 @@ use Rattle.shape.proofs.shape_verdict.Tie as tie
 -- the tests that passed, group by group
 passed-cycle : (c : tie.After-enum-told) (ys : List Rule) → let a = c .before .before .before .args in
     firstDue (cycleRules (a .limit) (a .shape .cycle) ++ ys) (tt {0}) ≡ firstDue ys tt
-passed-cycle c ys = let a = c .before .before .before .args in passed-on (cycleRules (a .limit) (a .shape .cycle)) (c .before .before .cycle-verdict .ensures) tt ys (c .enum-told .given .1)
+passed-cycle c ys = let a = c .before .before .before .args in passed-on (cycleRules (a .limit) (a .shape .cycle))
+    (c .before .before .cycle-verdict .ensures) tt ys (c .enum-told .given .1)
 
 passed-size : (c : tie.After-enum-told2) (ys : List Rule) → let s = c .before .before .before .before .before .before .args .shape in
     firstDue (sizeRules (s .rows) (s .columns) ++ ys) (tt {0}) ≡ firstDue ys tt
@@ -64,7 +65,8 @@ returns c =
 returns-2 : tie.Need-returns-2
 returns-2 c =
     let s = c .before .before .before .before .before .before .before .args .shape in
-    sym (passed-cycle (c .before .before .before .before) _ ∙ refused-before (sizeRules (s .rows) (s .columns)) (c .before .before .before .size-verdict .ensures) tt _ (c .before .f2 .given .1))
+    sym (passed-cycle (c .before .before .before .before) _
+    ∙ refused-before (sizeRules (s .rows) (s .columns)) (c .before .before .before .size-verdict .ensures) tt _ (c .before .f2 .given .1))
 
 returns-3 : tie.Need-returns-3
 returns-3 c =
@@ -75,7 +77,8 @@ returns-3 c =
     ∙ refused-before (maskRules (s .«mask_rows») (s .«mask_columns»)) (c .before .before .before .mask-verdict .ensures) tt _ (c .before .f3 .given .1))
 
 returns-4 : tie.Need-returns-4
-returns-4 c = c .reflection-verdict .ensures ∙ sym (passed-cycle (c .before .before .before .before .before .before .before) _ ∙ passed-size (c .before .before .before .before) _ ∙ passed-mask (c .before) _)
+returns-4 c = c .reflection-verdict .ensures ∙ sym
+    (passed-cycle (c .before .before .before .before .before .before .before) _ ∙ passed-size (c .before .before .before .before) _ ∙ passed-mask (c .before) _)
 
 pub shape-verdict-spec : {M : Type 1} → statement M
 shape-verdict-spec =

@@ -19,7 +19,14 @@ turn-back-requires c κs =
 signed-requires : tie.Need-signed-requires
 signed-requires c κs =
     let a = c .before .before .args in
-    omega (arith, ahead-way (a .cycle) (a .a) (a .b) (omega arith) (omega arith) .less, c .before .ahead-of .ensures, off-small (a .cycle) (c .before .ahead-of .result), c .turn-back .ensures)
+    omega (
+      arith,
+      ahead-way (a .cycle) (a .a) (a .b) (omega arith) (omega arith) .less,
+      c .before .ahead-of .ensures,
+      off-small (a .cycle)
+          (c .before .ahead-of .result),
+      c .turn-back .ensures,
+    )
 
 returns : tie.Need-returns
 returns c =

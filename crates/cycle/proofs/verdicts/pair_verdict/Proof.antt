@@ -34,7 +34,8 @@ returns-2 c =
     search (tests, k .0, k .1 .0)
 
 returns-3 : tie.Need-returns-3
-returns-3 c = sym (refused-before (cycleRules longestCycle (c .before .before .before .before .args .cycle)) (c .before .before .before .cycle-verdict .ensures) tt _ (c .before .f .given .1))
+returns-3 c = sym (refused-before (cycleRules longestCycle (c .before .before .before .before .args .cycle))
+    (c .before .before .before .cycle-verdict .ensures) tt _ (c .before .f .given .1))
 
 returns-4 : tie.Need-returns-4
 unfolding firstDue

@@ -10,7 +10,8 @@ use Rattle.cycle.proofs.verdicts.row_verdict.Tie as tie
 
 -- the tests that passed
 clear : (c : tie.After-enum-told) → Clear (cycleRules longestCycle (c .before .before .before .before .args .cycle))
-clear c = passed-clear (cycleRules longestCycle (c .before .before .before .before .args .cycle)) (c .before .before .cycle-verdict .ensures) (c .enum-told .given .1)
+clear c = passed-clear (cycleRules longestCycle (c .before .before .before .before .args .cycle)) (c .before .before .cycle-verdict .ensures)
+    (c .enum-told .given .1)
 
 cycle-verdict-requires : tie.Need-cycle-verdict-requires
 cycle-verdict-requires c κs = search needs
@@ -40,7 +41,8 @@ reading-verdict-requires : tie.Need-reading-verdict-requires
 reading-verdict-requires c κs = search needs
 
 returns-3 : tie.Need-returns-3
-returns-3 c = sym (refused-before (cycleRules longestCycle (c .before .before .before .before .before .args .cycle)) (c .before .before .before .cycle-verdict .ensures) tt _ (c .before .f .given .1))
+returns-3 c = sym (refused-before (cycleRules longestCycle (c .before .before .before .before .before .args .cycle))
+    (c .before .before .before .cycle-verdict .ensures) tt _ (c .before .f .given .1))
 
 returns-4 : tie.Need-returns-4
 unfolding firstDue

@@ -23,7 +23,8 @@ cast-area-2 : tie.Need-cast-area-2
 cast-area-2 c = search needs
 
 mul-area : tie.Need-mul-area
-mul-area c = let s = c .before .before .before .before .before .before .args .shape in record { fits = product-fits (s .rows) (s .columns) (omega arith) (omega arith) }
+mul-area c = let s = c .before .before .before .before .before .before .args .shape
+    in record { fits = product-fits (s .rows) (s .columns) (omega arith) (omega arith) }
 
 returns-3 : tie.Need-returns-3
 unfolding firstDue

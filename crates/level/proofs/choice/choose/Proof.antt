@@ -17,7 +17,8 @@ abbrev μ-loop : tie.MeasureT-loop
 
 -- the two ticks lie on the cycle
 at : (c : tie.After-ahead-by Inv-loop μ-loop) → c .ahead-by .result < c .before .before .before .before .args .cycle
-at c = let a = c .before .before .before .before .args in omega (arith, c .ahead-by .ensures, tick (a .cycle) (a .centre) (omega arith) (c .before .before .loop .e))
+at c = let a = c .before .before .before .before .args
+    in omega (arith, c .ahead-by .ensures, tick (a .cycle) (a .centre) (omega arith) (c .before .before .loop .e))
 
 at2 : (c : tie.After-ahead-by2 Inv-loop μ-loop) → c .ahead-by2 .result < c .before .before .before .before .before .before .before .args .cycle
 at2 c =
@@ -73,7 +74,8 @@ returns-2 c =
     let l = c .before .before .before .before .before .before .before .loop in
     let at-front = c .before .before .before .before .before .ahead-by .ensures in
     let at-rear = c .before .before .ahead-by2 .ensures in
-    rw at-rear (found-rear (a .cycle) (a .centre) (omega arith) f (a .least) low (l .e) (omega arith) (l .inv .1) (λ g. c .before .before .before .if1 .left (ap f at-front ∙ g)) (ap f (sym at-rear) ∙ c .if2 .taken))
+    rw at-rear (found-rear (a .cycle) (a .centre) (omega arith) f (a .least) low (l .e) (omega arith) (l .inv .1)
+    (λ g. c .before .before .before .if1 .left (ap f at-front ∙ g)) (ap f (sym at-rear) ∙ c .if2 .taken))
 
 add-e : tie.Need-add-e Inv-loop μ-loop
 add-e c = search needs
@@ -89,8 +91,11 @@ loop-again c =
     let low : ((q : ℕ) → q < a .cycle → a .least ≤ f q) = λ q h. omega (arith, lowest-least f (a .cycle) q h, s .pre .0) in
     let l = c .before .before .before .before .before .before .before .loop in
     let at-front = c .before .before .before .before .before .ahead-by .ensures in
-    let at-rear = c .before .before .ahead-by2 .ensures in
-    (omega arith, passed-more (a .cycle) (a .centre) (omega arith) f (a .least) low (l .e) (l .inv .1) (λ g. c .before .before .before .if1 .left (ap f at-front ∙ g)) (λ g. c .if2 .left (ap f at-rear ∙ g)))
+    let at-rear = c .before .before .ahead-by2 .ensures in (
+      omega arith,
+      passed-more (a .cycle) (a .centre) (omega arith) f (a .least) low (l .e) (l .inv .1)
+          (λ g. c .before .before .before .if1 .left (ap f at-front ∙ g)) (λ g. c .if2 .left (ap f at-rear ∙ g)),
+    )
 
 returns-3 : tie.Need-returns-3 Inv-loop μ-loop
 returns-3 c =

@@ -15,7 +15,8 @@ use Rattle.level.proofs.columns.add_mask_row.Statement.{statement}
 use Rattle.level.proofs.columns.add_mask_row.Tie as tie
 
 abbrev Inv-loop : tie.InvT-loop
-Inv-loop shape image work₀ table i k cycle columns row l₀ work l = (l ≤ columns) × Changed work₀ work 0 (shape .cycle) (λ q. difference (partSum shape image i k l q) 0)
+Inv-loop shape image work₀ table i k cycle columns row l₀ work l = (l ≤ columns) × Changed work₀ work 0 (shape .cycle)
+    (λ q. difference (partSum shape image i k l q) 0)
 
 abbrev μ-loop : tie.MeasureT-loop
 μ-loop shape image work₀ table i k cycle columns row l₀ work l = columns - l
@@ -26,12 +27,14 @@ here : (c : tie.After-column-at Inv-loop μ-loop) → let a = c .before .before 
 here c =
     let s = c .before .before .before .before .before .before .before .before .before in
     let k = accepted (s .pre .0 .0) in
-    spot (s .pre .0 .0) (s .args .i + s .args .k) (c .before .before .loop .l) (omega (arith, k)) (omega (arith, k)) (c .before .before .before .row-start .ensures) (c .column-at .ensures)
+    spot (s .pre .0 .0) (s .args .i + s .args .k) (c .before .before .loop .l) (omega (arith, k)) (omega (arith, k))
+    (c .before .before .before .row-start .ensures) (c .column-at .ensures)
 
 -- its part of the table
 source : (c : tie.After-part-of Inv-loop μ-loop) → let a = c .before .before .before .before .before .before .before .before .before .before .args in
     Part (a .shape .cycle) (a .table .now) (padded 0 (a .shape) (a .image .now) (a .i + a .k) (c .before .before .before .loop .l)) (c .part-of .result)
-source c = part (accepted (c .before .before .before .before .before .before .before .before .before .before .pre .0 .0) .cycle-fits) (c .before .before .before .before .before .before .before .before .before .before .pre .0 .1) (here (c .before)) (c .part-of .ensures)
+source c = part (accepted (c .before .before .before .before .before .before .before .before .before .before .pre .0 .0) .cycle-fits)
+    (c .before .before .before .before .before .before .before .before .before .before .pre .0 .1) (here (c .before)) (c .part-of .ensures)
 
 cast-cycle : tie.Need-cast-cycle Inv-loop μ-loop
 cast-cycle c = search needs
@@ -43,7 +46,10 @@ add-row-start : tie.Need-add-row-start Inv-loop μ-loop
 add-row-start c = search needs
 
 row-start-requires : tie.Need-row-start-requires Inv-loop μ-loop
-row-start-requires c κs = (c .before .before .before .before .before .pre .0 .0 .ready .shape, omega (arith, accepted (c .before .before .before .before .before .pre .0 .0)))
+row-start-requires c κs = (
+  c .before .before .before .before .before .pre .0 .0 .ready .shape,
+  omega (arith, accepted (c .before .before .before .before .before .pre .0 .0)),
+)
 
 loop-holds : tie.Need-loop-holds Inv-loop μ-loop
 loop-holds c =
@@ -52,7 +58,10 @@ loop-holds c =
     (omega arith, changed-none _ 0 (a .shape .cycle) _ (λ q h. s .pre .1 .1 q h ∙ part-none (a .shape) (a .image .now) (a .i) (a .k) q))
 
 column-at-requires : tie.Need-column-at-requires Inv-loop μ-loop
-column-at-requires c κs = (c .before .before .before .before .before .before .before .before .pre .0 .0 .ready .shape, omega (arith, accepted (c .before .before .before .before .before .before .before .before .pre .0 .0)))
+column-at-requires c κs = (
+  c .before .before .before .before .before .before .before .before .pre .0 .0 .ready .shape,
+  omega (arith, accepted (c .before .before .before .before .before .before .before .before .pre .0 .0)),
+)
 
 add-part-of : tie.Need-add-part-of Inv-loop μ-loop
 add-part-of c = omega (arith, here c)
@@ -78,7 +87,8 @@ loop-again c =
     let l = c .before .before .before .before .before .before .before .loop in (
       omega arith,
       run-added (partSum (a .shape) (a .image .now) (a .i) (a .k) (l .l)) (λ q. 0) (partSum (a .shape) (a .image .now) (a .i) (a .k) (l .l + 1)) (λ q. 0)
-          (source (c .before .before .before .before)) (l .inv .1) (c .before .before .add .ensures) (λ q h. part-more (a .shape) (a .image .now) (a .i) (a .k) (l .l) q) (λ q h. refl),
+          (source (c .before .before .before .before)) (l .inv .1) (c .before .before .add .ensures)
+          (λ q h. part-more (a .shape) (a .image .now) (a .i) (a .k) (l .l) q) (λ q h. refl),
     )
 
 same-length : tie.Need-same-length Inv-loop μ-loop
@@ -88,7 +98,8 @@ returns : tie.Need-returns Inv-loop μ-loop
 returns c =
     let a = c .before .before .before .before .before .before .before .before .args in
     let e : c .before .loop .l ≡ a .shape .«mask_columns» = omega arith in
-    changed-is (blockSum (a .shape) (a .image .now) (a .i) (a .k + 1)) (rw e at (c .before .loop .inv .1)) (λ q h. part-all (a .shape) (a .image .now) (a .i) (a .k) q)
+    changed-is (blockSum (a .shape) (a .image .now) (a .i) (a .k + 1)) (rw e at (c .before .loop .inv .1))
+    (λ q h. part-all (a .shape) (a .image .now) (a .i) (a .k) q)
 
 pub add-mask-row-spec : {M : Type 1} → statement M
 add-mask-row-spec =

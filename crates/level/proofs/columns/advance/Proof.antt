@@ -15,46 +15,57 @@ use Rattle.level.proofs.columns.advance.Statement.{statement}
 use Rattle.level.proofs.columns.advance.Tie as tie
 
 below-coming : (c : tie.After-column-at2) → let a = c .before .before .before .before .before .before .before .before .before .before .args in
-    Spot (a .shape) (a .image .now) (a .i + a .shape .«mask_rows») (a .j + a .shape .«mask_columns») (c .before .before .before .row-start2 .result + c .column-at2 .result)
+    Spot (a .shape) (a .image .now) (a .i + a .shape .«mask_rows») (a .j + a .shape .«mask_columns»)
+    (c .before .before .before .row-start2 .result + c .column-at2 .result)
 below-coming c =
     let a = c .before .before .before .before .before .before .before .before .before .before .args in
     let k = accepted (c .before .before .before .before .before .before .before .before .before .before .pre .0 .0) in
-    spot (c .before .before .before .before .before .before .before .before .before .before .pre .0 .0) (a .i + a .shape .«mask_rows») (a .j + a .shape .«mask_columns») (omega (arith, k)) (omega (arith, k)) (c .before .before .before .row-start2 .ensures) (c .column-at2 .ensures)
+    spot (c .before .before .before .before .before .before .before .before .before .before .pre .0 .0) (a .i + a .shape .«mask_rows»)
+    (a .j + a .shape .«mask_columns») (omega (arith, k)) (omega (arith, k)) (c .before .before .before .row-start2 .ensures) (c .column-at2 .ensures)
 
 above-leaving : (c : tie.After-column-at2) → let a = c .before .before .before .before .before .before .before .before .before .before .args in
     Spot (a .shape) (a .image .now) (a .i) (a .j) (c .before .before .before .before .before .row-start .result + c .before .before .column-at .result)
 above-leaving c =
     let a = c .before .before .before .before .before .before .before .before .before .before .args in
     let k = accepted (c .before .before .before .before .before .before .before .before .before .before .pre .0 .0) in
-    spot (c .before .before .before .before .before .before .before .before .before .before .pre .0 .0) (a .i) (a .j) (omega (arith, k)) (omega (arith, k)) (c .before .before .before .before .before .row-start .ensures) (c .before .before .column-at .ensures)
+    spot (c .before .before .before .before .before .before .before .before .before .before .pre .0 .0) (a .i) (a .j) (omega (arith, k))
+    (omega (arith, k)) (c .before .before .before .before .before .row-start .ensures) (c .before .before .column-at .ensures)
 
 below-leaving : (c : tie.After-column-at2) → let a = c .before .before .before .before .before .before .before .before .before .before .args in
     Spot (a .shape) (a .image .now) (a .i + a .shape .«mask_rows») (a .j) (c .before .before .before .row-start2 .result + c .before .before .column-at .result)
 below-leaving c =
     let a = c .before .before .before .before .before .before .before .before .before .before .args in
     let k = accepted (c .before .before .before .before .before .before .before .before .before .before .pre .0 .0) in
-    spot (c .before .before .before .before .before .before .before .before .before .before .pre .0 .0) (a .i + a .shape .«mask_rows») (a .j) (omega (arith, k)) (omega (arith, k)) (c .before .before .before .row-start2 .ensures) (c .before .before .column-at .ensures)
+    spot (c .before .before .before .before .before .before .before .before .before .before .pre .0 .0) (a .i + a .shape .«mask_rows») (a .j)
+    (omega (arith, k)) (omega (arith, k)) (c .before .before .before .row-start2 .ensures) (c .before .before .column-at .ensures)
 
 above-coming : (c : tie.After-column-at2) → let a = c .before .before .before .before .before .before .before .before .before .before .args in
-    Spot (a .shape) (a .image .now) (a .i) (a .j + a .shape .«mask_columns») (c .before .before .before .before .before .row-start .result + c .column-at2 .result)
+    Spot (a .shape) (a .image .now) (a .i) (a .j + a .shape .«mask_columns»)
+    (c .before .before .before .before .before .row-start .result + c .column-at2 .result)
 above-coming c =
     let a = c .before .before .before .before .before .before .before .before .before .before .args in
     let k = accepted (c .before .before .before .before .before .before .before .before .before .before .pre .0 .0) in
-    spot (c .before .before .before .before .before .before .before .before .before .before .pre .0 .0) (a .i) (a .j + a .shape .«mask_columns») (omega (arith, k)) (omega (arith, k)) (c .before .before .before .before .before .row-start .ensures) (c .column-at2 .ensures)
+    spot (c .before .before .before .before .before .before .before .before .before .before .pre .0 .0) (a .i) (a .j + a .shape .«mask_columns»)
+    (omega (arith, k)) (omega (arith, k)) (c .before .before .before .before .before .row-start .ensures) (c .column-at2 .ensures)
 
 in1 : (c : tie.After-part-of) → let a = c .before .before .before .before .before .before .before .before .before .before .before .args in
-    Part (a .shape .cycle) (a .table .now) (padded 0 (a .shape) (a .image .now) (a .i + a .shape .«mask_rows») (a .j + a .shape .«mask_columns»)) (c .part-of .result)
-in1 c = part (accepted (c .before .before .before .before .before .before .before .before .before .before .before .pre .0 .0) .cycle-fits) (c .before .before .before .before .before .before .before .before .before .before .before .pre .0 .1) (below-coming (c .before)) (c .part-of .ensures)
+    Part (a .shape .cycle) (a .table .now) (padded 0 (a .shape) (a .image .now) (a .i + a .shape .«mask_rows») (a .j + a .shape .«mask_columns»))
+    (c .part-of .result)
+in1 c = part (accepted (c .before .before .before .before .before .before .before .before .before .before .before .pre .0 .0) .cycle-fits)
+    (c .before .before .before .before .before .before .before .before .before .before .before .pre .0 .1) (below-coming (c .before)) (c .part-of .ensures)
 
 in2 : (c : tie.After-part-of2) → let a = c .before .before .before .before .before .before .before .before .before .before .before .before .args in
     Part (a .shape .cycle) (a .table .now) (padded 0 (a .shape) (a .image .now) (a .i) (a .j)) (c .part-of2 .result)
-in2 c = part (accepted (c .before .before .before .before .before .before .before .before .before .before .before .before .pre .0 .0) .cycle-fits) (c .before .before .before .before .before .before .before .before .before .before .before .before .pre .0 .1) (above-leaving (c .before .before)) (c .part-of2 .ensures)
+in2 c = part (accepted (c .before .before .before .before .before .before .before .before .before .before .before .before .pre .0 .0) .cycle-fits)
+    (c .before .before .before .before .before .before .before .before .before .before .before .before .pre .0 .1) (above-leaving (c .before .before))
+    (c .part-of2 .ensures)
 
 out1 : (c : tie.After-part-of3) → let a = c .before .before .before .before .before .before .before .before .before .before .before .before .before .args in
     Part (a .shape .cycle) (a .table .now) (padded 0 (a .shape) (a .image .now) (a .i + a .shape .«mask_rows») (a .j)) (c .part-of3 .result)
 out1 c = part (accepted (c .before .before .before .before .before .before .before .before .before .before .before .before .before .pre .0 .0) .cycle-fits) (c .before .before .before .before .before .before .before .before .before .before .before .before .before .pre .0 .1) (below-leaving (c .before .before .before)) (c .part-of3 .ensures)
 
-out2 : (c : tie.After-part-of4) → let a = c .before .before .before .before .before .before .before .before .before .before .before .before .before .before .args in
+out2 : (c : tie.After-part-of4) → let a =
+    c .before .before .before .before .before .before .before .before .before .before .before .before .before .before .args in
     Part (a .shape .cycle) (a .table .now) (padded 0 (a .shape) (a .image .now) (a .i) (a .j + a .shape .«mask_columns»)) (c .part-of4 .result)
 out2 c = part (accepted (c .before .before .before .before .before .before .before .before .before .before .before .before .before .before .pre .0 .0) .cycle-fits) (c .before .before .before .before .before .before .before .before .before .before .before .before .before .before .pre .0 .1) (above-coming (c .before .before .before .before)) (c .part-of4 .ensures)
 
@@ -71,10 +82,16 @@ add-row-start : tie.Need-add-row-start
 add-row-start c = search needs
 
 row-start-requires-2 : tie.Need-row-start-requires-2
-row-start-requires-2 c κs = (c .before .before .before .before .before .before .pre .0 .0 .ready .shape, omega (arith, accepted (c .before .before .before .before .before .before .pre .0 .0)))
+row-start-requires-2 c κs = (
+  c .before .before .before .before .before .before .pre .0 .0 .ready .shape,
+  omega (arith, accepted (c .before .before .before .before .before .before .pre .0 .0)),
+)
 
 column-at-requires : tie.Need-column-at-requires
-column-at-requires c κs = (c .before .before .before .before .before .before .before .pre .0 .0 .ready .shape, omega (arith, accepted (c .before .before .before .before .before .before .before .pre .0 .0)))
+column-at-requires c κs = (
+  c .before .before .before .before .before .before .before .pre .0 .0 .ready .shape,
+  omega (arith, accepted (c .before .before .before .before .before .before .before .pre .0 .0)),
+)
 
 cast-column-at : tie.Need-cast-column-at
 cast-column-at c = search needs
@@ -83,7 +100,10 @@ add-column-at : tie.Need-add-column-at
 add-column-at c = search needs
 
 column-at-requires-2 : tie.Need-column-at-requires-2
-column-at-requires-2 c κs = (c .before .before .before .before .before .before .before .before .before .pre .0 .0 .ready .shape, omega (arith, accepted (c .before .before .before .before .before .before .before .before .before .pre .0 .0)))
+column-at-requires-2 c κs = (
+  c .before .before .before .before .before .before .before .before .before .pre .0 .0 .ready .shape,
+  omega (arith, accepted (c .before .before .before .before .before .before .before .before .before .pre .0 .0)),
+)
 
 add-part-of : tie.Need-add-part-of
 add-part-of c = omega (arith, below-coming (c))
@@ -115,7 +135,10 @@ turn-requires c κs =
     let a = s .args in
     let g = s .pre .0 .0 in (
       (omega (arith, column-room g (a .j + 1) (omega arith)), omega (arith, g .room)),
-      ((in1 (c .before .before .before .before) .room, in2 (c .before .before .before) .room, out1 (c .before .before) .room, out2 (c .before) .room), s .pre .0 .1 .small),
+      (
+        (in1 (c .before .before .before .before) .room, in2 (c .before .before .before) .room, out1 (c .before .before) .room, out2 (c .before) .room),
+        s .pre .0 .1 .small,
+      ),
     )
 
 same-length : tie.Need-same-length
@@ -127,11 +150,22 @@ returns c =
     let a = s .args in
     let x = a .shape in
     let z = a .image .now in
-    let changed : ((q : ℕ) → q < x .cycle → turned (a .work .now) (a .change) (a .table .now) (c .before .before .before .before .before .before .before .part-of .result) (c .before .before .before .before .before .before .part-of2 .result) (c .before .before .before .before .before .part-of3 .result) (c .before .before .before .before .part-of4 .result) q ≡ rowChange x z (a .i) (a .j + 1) q) =
-    turned-is (a .work .now) (a .change) (rowChange x z (a .i) (a .j)) (rowChange x z (a .i) (a .j + 1)) (in1 (c .before .before .before .before .before .before .before)) (in2 (c .before .before .before .before .before .before)) (out1 (c .before .before .before .before .before)) (out2 (c .before .before .before .before)) (s .pre .1 .1 .1) (λ q h. change-next x z (a .i) (a .j) q) in
-    let sums = summed-is (x .cycle) (a .work .now) (a .base) (windowSum x z (a .i) (a .j + 1)) (rowChange x z (a .i) (a .j + 1)) (windowSum x z (a .i + 1) (a .j + 1)) _ (s .pre .1 .1 .0) changed (λ q h. row-next x z (s .pre .0 .0) (a .i) (a .j + 1) q (omega arith) (omega arith) h) in
-    let t = c .before .before .turn .ensures in
-    (both-is (windowSum x z (a .i + 1) (a .j + 1)) (rowChange x z (a .i) (a .j + 1)) (t .0) sums changed, t .1 ∙ lowest-cong _ (windowSum x z (a .i + 1) (a .j + 1)) (x .cycle) sums)
+    let changed : ((q : ℕ) → q < x .cycle → turned (a .work .now) (a .change) (a .table .now)
+    (c .before .before .before .before .before .before .before .part-of .result)
+    (c .before .before .before .before .before .before .part-of2 .result) (c .before .before .before .before .before .part-of3 .result)
+    (c .before .before .before .before .part-of4 .result) q ≡ rowChange x z (a .i) (a .j + 1) q) =
+    turned-is (a .work .now) (a .change) (rowChange x z (a .i) (a .j)) (rowChange x z (a .i) (a .j + 1))
+    (in1 (c .before .before .before .before .before .before .before)) (in2 (c .before .before .before .before .before .before))
+    (out1 (c .before .before .before .before .before)) (out2 (c .before .before .before .before)) (s .pre .1 .1 .1)
+    (λ q h. change-next x z (a .i) (a .j) q) in
+    let sums = summed-is (x .cycle) (a .work .now) (a .base) (windowSum x z (a .i) (a .j + 1)) (rowChange x z (a .i) (a .j + 1))
+    (windowSum x z (a .i + 1) (a .j + 1)) _ (s .pre .1 .1 .0) changed
+    (λ q h. row-next x z (s .pre .0 .0) (a .i) (a .j + 1) q (omega arith) (omega arith) h) in
+    let t = c .before .before .turn .ensures in (
+      both-is (windowSum x z (a .i + 1) (a .j + 1)) (rowChange x z (a .i) (a .j + 1)) (t .0) sums changed,
+      t .1
+          ∙ lowest-cong _ (windowSum x z (a .i + 1) (a .j + 1)) (x .cycle) sums,
+    )
 
 pub advance-spec : {M : Type 1} → statement M
 advance-spec =

@@ -37,7 +37,8 @@ add-mask-row-requires c κs =
     let s = c .before .before .before .before .before .before .before .before .before .before .before .before in
     let a = s .args in
     let l = c .before .before .loop in
-    let room : a .shape .columns * a .shape .cycle + a .shape .cycle ≤ length (l .work) = omega (arith, s .pre .0 .0 .room, l .inv .1 .len, c .before .before .before .before .before .clear .ensures .len) in
+    let room : a .shape .columns * a .shape .cycle + a .shape .cycle ≤ length (l .work) =
+    omega (arith, s .pre .0 .0 .room, l .inv .1 .len, c .before .before .before .before .before .clear .ensures .len) in
     ((record { ready = s .pre .0 .0 .ready; room = room }, s .pre .0 .1), ((omega arith, omega arith), l .inv .1 .holds))
 
 add-k : tie.Need-add-k Inv-loop μ-loop

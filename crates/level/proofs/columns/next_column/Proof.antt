@@ -14,31 +14,44 @@ use Rattle.level.proofs.columns.next_column.Statement.{statement}
 use Rattle.level.proofs.columns.next_column.Tie as tie
 
 abbrev Inv-loop : tie.InvT-loop
-Inv-loop shape image work₀ table i j base cycle rows leaving coming next k₀ work k = (k ≤ rows) × Changed work₀ work next (shape .cycle) (columnRun shape image i j k)
+Inv-loop shape image work₀ table i j base cycle rows leaving coming next k₀ work k = (k ≤ rows) × Changed work₀ work next (shape .cycle)
+    (columnRun shape image i j k)
 
 abbrev μ-loop : tie.MeasureT-loop
 μ-loop shape image work₀ table i j base cycle rows leaving coming next k₀ work k = rows - k
 
-coming : (c : tie.After-row-start Inv-loop μ-loop) → let a = c .before .before .before .before .before .before .before .before .before .before .before .before .before .before .before .args in
-    Spot (a .shape) (a .image .now) (a .i + c .before .before .loop .k) (a .j + a .shape .«mask_columns») (c .row-start .result + c .before .before .before .before .before .before .before .column-at2 .result)
+coming : (c : tie.After-row-start Inv-loop μ-loop) → let a =
+    c .before .before .before .before .before .before .before .before .before .before .before .before .before .before .before .args in
+    Spot (a .shape) (a .image .now) (a .i + c .before .before .loop .k) (a .j + a .shape .«mask_columns»)
+    (c .row-start .result + c .before .before .before .before .before .before .before .column-at2 .result)
 coming c =
     let a = c .before .before .before .before .before .before .before .before .before .before .before .before .before .before .before .args in
     let k = accepted (c .before .before .before .before .before .before .before .before .before .before .before .before .before .before .before .pre .0 .0) in
-    spot (c .before .before .before .before .before .before .before .before .before .before .before .before .before .before .before .pre .0 .0) (a .i + c .before .before .loop .k) (a .j + a .shape .«mask_columns») (omega (arith, k)) (omega (arith, k)) (c .row-start .ensures) (c .before .before .before .before .before .before .before .column-at2 .ensures)
+    spot (c .before .before .before .before .before .before .before .before .before .before .before .before .before .before .before .pre .0 .0)
+    (a .i + c .before .before .loop .k) (a .j + a .shape .«mask_columns») (omega (arith, k)) (omega (arith, k)) (c .row-start .ensures)
+    (c .before .before .before .before .before .before .before .column-at2 .ensures)
 
-leaving : (c : tie.After-row-start Inv-loop μ-loop) → let a = c .before .before .before .before .before .before .before .before .before .before .before .before .before .before .before .args in
-    Spot (a .shape) (a .image .now) (a .i + c .before .before .loop .k) (a .j) (c .row-start .result + c .before .before .before .before .before .before .before .before .before .column-at .result)
+leaving : (c : tie.After-row-start Inv-loop μ-loop)
+    → let a = c .before .before .before .before .before .before .before .before .before .before .before .before .before .before .before .args in
+    Spot (a .shape) (a .image .now) (a .i + c .before .before .loop .k) (a .j)
+    (c .row-start .result + c .before .before .before .before .before .before .before .before .before .column-at .result)
 leaving c =
     let a = c .before .before .before .before .before .before .before .before .before .before .before .before .before .before .before .args in
     let k = accepted (c .before .before .before .before .before .before .before .before .before .before .before .before .before .before .before .pre .0 .0) in
-    spot (c .before .before .before .before .before .before .before .before .before .before .before .before .before .before .before .pre .0 .0) (a .i + c .before .before .loop .k) (a .j) (omega (arith, k)) (omega (arith, k)) (c .row-start .ensures) (c .before .before .before .before .before .before .before .before .before .column-at .ensures)
+    spot (c .before .before .before .before .before .before .before .before .before .before .before .before .before .before .before .pre .0 .0)
+    (a .i + c .before .before .loop .k) (a .j) (omega (arith, k)) (omega (arith, k)) (c .row-start .ensures)
+    (c .before .before .before .before .before .before .before .before .before .column-at .ensures)
 
-in-part : (c : tie.After-part-of Inv-loop μ-loop) → let a = c .before .before .before .before .before .before .before .before .before .before .before .before .before .before .before .before .args in
-    Part (a .shape .cycle) (a .table .now) (padded 0 (a .shape) (a .image .now) (a .i + c .before .before .before .loop .k) (a .j + a .shape .«mask_columns»)) (c .part-of .result)
+in-part : (c : tie.After-part-of Inv-loop μ-loop) → let a =
+    c .before .before .before .before .before .before .before .before .before .before .before .before .before .before .before .before .args in
+    Part (a .shape .cycle) (a .table .now)
+    (padded 0 (a .shape) (a .image .now) (a .i + c .before .before .before .loop .k) (a .j + a .shape .«mask_columns»)) (c .part-of .result)
 in-part c = part (accepted (c .before .before .before .before .before .before .before .before .before .before .before .before .before .before .before .before .pre .0 .0) .cycle-fits) (c .before .before .before .before .before .before .before .before .before .before .before .before .before .before .before .before .pre .0 .1) (coming (c .before)) (c .part-of .ensures)
 
-out-part : (c : tie.After-part-of2 Inv-loop μ-loop) → let a = c .before .before .before .before .before .before .before .before .before .before .before .before .before .before .before .before .before .args in
-    Part (a .shape .cycle) (a .table .now) (padded 0 (a .shape) (a .image .now) (a .i + c .before .before .before .before .loop .k) (a .j)) (c .part-of2 .result)
+out-part : (c : tie.After-part-of2 Inv-loop μ-loop)
+    → let a = c .before .before .before .before .before .before .before .before .before .before .before .before .before .before .before .before .before .args in
+    Part (a .shape .cycle) (a .table .now) (padded 0 (a .shape) (a .image .now) (a .i + c .before .before .before .before .loop .k) (a .j))
+    (c .part-of2 .result)
 out-part c = part (accepted (c .before .before .before .before .before .before .before .before .before .before .before .before .before .before .before .before .before .pre .0 .0) .cycle-fits) (c .before .before .before .before .before .before .before .before .before .before .before .before .before .before .before .before .before .pre .0 .1) (leaving (c .before .before)) (c .part-of2 .ensures)
 
 cast-cycle : tie.Need-cast-cycle Inv-loop μ-loop
@@ -48,7 +61,10 @@ cast-rows : tie.Need-cast-rows Inv-loop μ-loop
 cast-rows c = search needs
 
 column-at-requires : tie.Need-column-at-requires Inv-loop μ-loop
-column-at-requires c κs = (c .before .before .before .before .before .pre .0 .0 .ready .shape, omega (arith, accepted (c .before .before .before .before .before .pre .0 .0)))
+column-at-requires c κs = (
+  c .before .before .before .before .before .pre .0 .0 .ready .shape,
+  omega (arith, accepted (c .before .before .before .before .before .pre .0 .0)),
+)
 
 cast-column-at : tie.Need-cast-column-at Inv-loop μ-loop
 cast-column-at c = search needs
@@ -57,10 +73,19 @@ add-column-at : tie.Need-add-column-at Inv-loop μ-loop
 add-column-at c = search needs
 
 column-at-requires-2 : tie.Need-column-at-requires-2 Inv-loop μ-loop
-column-at-requires-2 c κs = (c .before .before .before .before .before .before .before .pre .0 .0 .ready .shape, omega (arith, accepted (c .before .before .before .before .before .before .before .pre .0 .0)))
+column-at-requires-2 c κs = (
+  c .before .before .before .before .before .before .before .pre .0 .0 .ready .shape,
+  omega (arith, accepted (c .before .before .before .before .before .before .before .pre .0 .0)),
+)
 
 add-next : tie.Need-add-next Inv-loop μ-loop
-add-next c = omega (arith, column-room (c .before .before .before .before .before .before .before .before .pre .0 .0) (c .before .before .before .before .before .before .before .before .args .j) (omega arith), need-fits (c .before .before .before .before .before .before .before .before .pre .0 .0))
+add-next c = omega (
+  arith,
+  column-room (c .before .before .before .before .before .before .before .before .pre .0 .0)
+      (c .before .before .before .before .before .before .before .before .args .j) (omega arith),
+  need-fits
+      (c .before .before .before .before .before .before .before .before .pre .0 .0),
+)
 
 copy-requires : tie.Need-copy-requires Inv-loop μ-loop
 copy-requires c κs =
@@ -73,7 +98,8 @@ loop-holds c =
     let a = s .args in (
       omega arith,
       changed-none _ _ (a .shape .cycle) _
-          (λ q h. c .before .before .copy .ensures .holds q h ∙ s .pre .1 .1 q h ∙ column-none (a .shape) (a .image .now) (s .pre .0 .0) (a .i) (a .j) q (omega arith) (omega arith) h),
+          (λ q h. c .before .before .copy .ensures .holds q h ∙ s .pre .1 .1 q h
+          ∙ column-none (a .shape) (a .image .now) (s .pre .0 .0) (a .i) (a .j) q (omega arith) (omega arith) h),
     )
 
 add-row-start : tie.Need-add-row-start Inv-loop μ-loop
@@ -97,7 +123,13 @@ part-of-requires-2 c κs = let h = leaving (c .before) in (h .inside, h .tick)
 swap-requires : tie.Need-swap-requires Inv-loop μ-loop
 swap-requires c κs =
     let s = c .before .before .before .before .before .before .before .before .before .before .before .before .before .before .before .before .before .before in (
-      omega (arith, s .pre .0 .0 .room, column-room (s .pre .0 .0) (s .args .j + 1) (omega arith), c .before .before .before .before .before .loop .inv .1 .len, c .before .before .before .before .before .before .before .before .copy .ensures .len),
+      omega (
+        arith,
+        s .pre .0 .0 .room,
+        column-room (s .pre .0 .0) (s .args .j + 1) (omega arith),
+        c .before .before .before .before .before .loop .inv .1 .len,
+        c .before .before .before .before .before .before .before .before .copy .ensures .len,
+      ),
       in-part (c .before .before) .room,
       out-part (c .before) .room,
     )
@@ -116,7 +148,8 @@ loop-again c =
     let x = a .shape in
     let z = a .image .now in (
       omega arith,
-      run-swapped (comeSum x z (a .i) (a .j) (l .k)) (goSum x z (a .i) (a .j) (l .k)) (comeSum x z (a .i) (a .j) (l .k + 1)) (goSum x z (a .i) (a .j) (l .k + 1))
+      run-swapped (comeSum x z (a .i) (a .j) (l .k)) (goSum x z (a .i) (a .j) (l .k)) (comeSum x z (a .i) (a .j) (l .k + 1))
+          (goSum x z (a .i) (a .j) (l .k + 1))
           (in-part (c .before .before .before .before .before)) (out-part (c .before .before .before .before)) (l .inv .1) (c .before .before .swap .ensures)
           (λ q h. come-more x z (a .i) (a .j) (l .k) q) (λ q h. go-more x z (a .i) (a .j) (l .k) q),
     )

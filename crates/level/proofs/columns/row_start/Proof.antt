@@ -28,7 +28,13 @@ mul-result c =
     let a = c .before .before .before .before .args in
     let s = a .shape in
     let k = shape-clear levelCycle s (c .before .before .before .before .pre .0) in
-    let row : c .before .mirrored .result < s .rows = omega (arith, c .before .mirrored .ensures, mirror-below (s .rows) (reach (s .«mask_rows»)) (a .position) (k .rows-reach) (c .before .before .before .before .pre .1)) in
+    let row : c .before .mirrored .result < s .rows =
+    omega (
+      arith,
+      c .before .mirrored .ensures,
+      mirror-below (s .rows) (reach (s .«mask_rows»)) (a .position) (k .rows-reach)
+          (c .before .before .before .before .pre .1),
+    ) in
     let p : c .before .mirrored .result * s .columns ≤ mostRows * mostColumns =
     mul-le-mul {n₁ = c .before .mirrored .result} {m₁ = s .columns} {n₂ = mostRows} {m₂ = mostColumns} (omega (arith, k)) (k .columns-fit) in
     record { fits = omega arith }

@@ -46,7 +46,8 @@ returns c =
     let sh = a .shape in
     let k = accepted g in
     let t = c .before .before .turn .ensures in
-    let r = start-column (a .table .now) (windowSum sh z (a .i) 0) (windowSum sh z (a .i + 1) 0) (rowSum sh z (a .i + sh .«mask_rows») (sh .«mask_columns»)) (rowSum sh z (a .i) (sh .«mask_columns»))
+    let r = start-column (a .table .now) (windowSum sh z (a .i) 0) (windowSum sh z (a .i + 1) 0)
+    (rowSum sh z (a .i + sh .«mask_rows») (sh .«mask_columns»)) (rowSum sh z (a .i) (sh .«mask_columns»))
     (c .before .before .before .before .before .before .before .first-change .ensures) (t .0) (omega (arith, column-room g 0 (k .columns-some))) (s .pre .1 .1)
     (λ q h. row-next sh z g (a .i) 0 q (omega arith) (k .columns-some) h) in
     (r .0, t .1 ∙ r .1)

@@ -16,7 +16,8 @@ use Rattle.level.proofs.rows.fill.Statement.{statement}
 use Rattle.level.proofs.rows.fill.Tie as tie
 
 abbrev Inv-loop : tie.InvT-loop
-Inv-loop shape first end image output₀ work₀ columns table start stop i₀ output work i = (first ≤ i) × (i < end) × RowSums shape image i work 0 (shape .columns) × Beyond shape work₀ work × Run (phaseAt shape image) ((first + 1) * shape .columns) output₀ output ((i + 1) * shape .columns)
+Inv-loop shape first end image output₀ work₀ columns table start stop i₀ output work i = (first ≤ i) × (i < end) × RowSums shape image i work 0
+    (shape .columns) × Beyond shape work₀ work × Run (phaseAt shape image) ((first + 1) * shape .columns) output₀ output ((i + 1) * shape .columns)
 
 abbrev μ-loop : tie.MeasureT-loop
 μ-loop shape first end image output₀ work₀ columns table start stop i₀ output work i = end - i
@@ -94,8 +95,13 @@ first-row-requires c κs =
 
 loop-holds : tie.Need-loop-holds Inv-loop μ-loop
 loop-holds c =
-    let s = c .before .before .before .before .before .before .before .before .before .before .before .before .before .before .before in
-    (omega arith, omega (arith, c .before .before .before .before .before .before .before .before .before .before .before .if1 .left, s .pre .1), c .before .before .before .before .first-row .ensures .1 .0, beyond-none, run-start)
+    let s = c .before .before .before .before .before .before .before .before .before .before .before .before .before .before .before in (
+      omega arith,
+      omega (arith, c .before .before .before .before .before .before .before .before .before .before .before .if1 .left, s .pre .1),
+      c .before .before .before .before .first-row .ensures .1 .0,
+      beyond-none,
+      run-start,
+    )
 
 add-loop : tie.Need-add-loop Inv-loop μ-loop
 add-loop c = search needs
@@ -152,7 +158,8 @@ part-next-row-end c =
     let room = row-room (a .shape .rows) n (l .i + 1) (omega arith) in
     let room0 = row-room (a .shape .rows) n (a .first) (omega arith) in
     let f = phaseAt (a .shape) (a .image .now) in
-    let o = run-part (run-start {f = f} {a = a .first * n} {l = a .output .now}) n _ (omega (arith, room0)) (c .before .before .before .before .before .before .before .before .first-row .ensures .0) in
+    let o = run-part (run-start {f = f} {a = a .first * n} {l = a .output .now}) n _ (omega (arith, room0))
+    (c .before .before .before .before .before .before .before .before .first-row .ensures .0) in
     omega (arith, room, o .len, l .inv .4 .len)
 
 next-row-requires : tie.Need-next-row-requires Inv-loop μ-loop
@@ -165,8 +172,12 @@ next-row-requires c κs =
     let room = row-room (a .shape .rows) n (l .i + 1) (omega arith) in
     let room0 = row-room (a .shape .rows) n (a .first) (omega arith) in
     let f = phaseAt (a .shape) (a .image .now) in
-    let o = run-part (run-start {f = f} {a = a .first * n} {l = a .output .now}) n _ (omega (arith, room0)) (c .before .before .before .before .before .before .before .before .before .first-row .ensures .0) in (
-      (given-kept g (l .inv .3 .len ∙ c .before .before .before .before .before .before .before .before .before .first-row .ensures .1 .1 .len), c .before .before .before .before .before .before .before .before .before .before .before .before .before .distances .ensures),
+    let o = run-part (run-start {f = f} {a = a .first * n} {l = a .output .now}) n _ (omega (arith, room0))
+    (c .before .before .before .before .before .before .before .before .before .first-row .ensures .0) in (
+      (
+        given-kept g (l .inv .3 .len ∙ c .before .before .before .before .before .before .before .before .before .first-row .ensures .1 .1 .len),
+        c .before .before .before .before .before .before .before .before .before .before .before .before .before .distances .ensures,
+      ),
       (omega arith, part-length ((l .i + 1) * n) n (l .output) (omega (arith, room, o .len, l .inv .4 .len)), l .inv .2),
     )
 
@@ -192,9 +203,16 @@ loop-again c =
     let room = row-room (a .shape .rows) n (l .i + 1) (omega arith) in
     let room0 = row-room (a .shape .rows) n (a .first) (omega arith) in
     let f = phaseAt (a .shape) (a .image .now) in
-    let o = run-part (run-start {f = f} {a = a .first * n} {l = a .output .now}) n _ (omega (arith, room0)) (c .before .before .before .before .before .before .before .before .before .before .before .before .before .before .first-row .ensures .0) in
-    let y = c .before .before .before .before .next-row .ensures in
-    (omega arith, omega arith, y .1 .0, beyond-more (l .inv .3) (y .1 .1), rw (next-place (l .i + 1) n) (run-part (l .inv .4) n _ (omega (arith, room, o .len)) (y .0)))
+    let o = run-part (run-start {f = f} {a = a .first * n} {l = a .output .now}) n _ (omega (arith, room0))
+    (c .before .before .before .before .before .before .before .before .before .before .before .before .before .before .first-row .ensures .0) in
+    let y = c .before .before .before .before .next-row .ensures in (
+      omega arith,
+      omega arith,
+      y .1 .0,
+      beyond-more (l .inv .3) (y .1 .1),
+      rw (next-place (l .i + 1) n)
+          (run-part (l .inv .4) n _ (omega (arith, room, o .len)) (y .0)),
+    )
 
 same-length : tie.Need-same-length Inv-loop μ-loop
 same-length c =
@@ -205,7 +223,8 @@ same-length c =
     let l = c .before .loop in
     let room = row-room (a .shape .rows) n (a .first) (omega arith) in
     let f = phaseAt (a .shape) (a .image .now) in
-    let o = run-part (run-start {f = f} {a = a .first * n} {l = a .output .now}) n _ (omega (arith, room)) (c .before .before .before .before .before .before .first-row .ensures .0) in
+    let o = run-part (run-start {f = f} {a = a .first * n} {l = a .output .now}) n _ (omega (arith, room))
+    (c .before .before .before .before .before .before .first-row .ensures .0) in
     l .inv .4 .len ∙ o .len
 
 same-length-2 : tie.Need-same-length-2 Inv-loop μ-loop
@@ -226,11 +245,13 @@ returns-2 c =
     let l = c .before .loop in
     let room = row-room (a .shape .rows) n (a .first) (omega arith) in
     let f = phaseAt (a .shape) (a .image .now) in
-    let o = run-part (run-start {f = f} {a = a .first * n} {l = a .output .now}) n _ (omega (arith, room)) (c .before .before .before .before .before .before .first-row .ensures .0) in
+    let o = run-part (run-start {f = f} {a = a .first * n} {l = a .output .now}) n _ (omega (arith, room))
+    (c .before .before .before .before .before .before .first-row .ensures .0) in
     let e : l .i + 1 ≡ a .end = omega arith in
     let order : (a .first + 1) * n ≤ a .end * n = mul-le-mul-right n (omega arith) in
     let last : a .end * n ≤ length (a .output .now) = omega (arith, mul-le-mul-right {m = a .end} {n = a .shape .rows} n (omega arith)) in (
-      rw e at (l .inv .4 .is) ∙ ap (written f ((a .first + 1) * n) (a .end * n)) (o .is ∙ ap (λ (k : ℕ). written f (a .first * n) k (a .output .now)) (sym (next-place (a .first) n)))
+      rw e at (l .inv .4 .is) ∙ ap (written f ((a .first + 1) * n) (a .end * n))
+          (o .is ∙ ap (λ (k : ℕ). written f (a .first * n) k (a .output .now)) (sym (next-place (a .first) n)))
           ∙ written-join 0 f (a .first * n) ((a .first + 1) * n) (a .end * n) (a .output .now) (omega arith) order last,
       beyond-more (c .before .before .before .before .before .before .first-row .ensures .1 .1) (l .inv .3),
     )

@@ -10,7 +10,8 @@ use Rattle.level.proofs.rows.first_row.Statement.{statement}
 use Rattle.level.proofs.rows.first_row.Tie as tie
 
 abbrev Inv-loop : tie.InvT-loop
-Inv-loop shape image work₀ table i out₀ cycle columns j₀ base₀ work out j base = (j < columns) × (base ≡ j * shape .cycle) × RowSums shape image i work 0 (j + 1) × Beyond shape work₀ work × Row shape image i out (j + 1)
+Inv-loop shape image work₀ table i out₀ cycle columns j₀ base₀ work out j base = (j < columns) × (base ≡ j * shape .cycle) × RowSums shape image i
+    work 0 (j + 1) × Beyond shape work₀ work × Row shape image i out (j + 1)
 
 abbrev μ-loop : tie.MeasureT-loop
 μ-loop shape image work₀ table i out₀ cycle columns j₀ base₀ work out j base = columns - j
@@ -65,8 +66,14 @@ next-column-requires c κs =
     let a = s .args in
     let g = s .pre .0 .0 in
     let l = c .before .before .loop in
-    let x = c .before .before .before .before .before .before .before .first-column .ensures in
-    ((given-kept g (l .inv .3 .len ∙ x .len), s .pre .0 .1), ((omega arith, omega arith, l .inv .1), holds-at (l .work) (a .shape .cycle) (windowSum (a .shape) (a .image .now) (a .i) (l .j)) (l .inv .1) (l .inv .2 (l .j) (omega arith) (omega arith))))
+    let x = c .before .before .before .before .before .before .before .first-column .ensures in (
+      (given-kept g (l .inv .3 .len ∙ x .len), s .pre .0 .1),
+      (
+        (omega arith, omega arith, l .inv .1),
+        holds-at (l .work) (a .shape .cycle) (windowSum (a .shape) (a .image .now) (a .i) (l .j)) (l .inv .1)
+            (l .inv .2 (l .j) (omega arith) (omega arith)),
+      ),
+    )
 
 add-j : tie.Need-add-j Inv-loop μ-loop
 add-j c = search needs

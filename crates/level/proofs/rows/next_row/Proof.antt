@@ -11,7 +11,9 @@ use Rattle.level.proofs.rows.next_row.Statement.{statement}
 use Rattle.level.proofs.rows.next_row.Tie as tie
 
 abbrev Inv-loop : tie.InvT-loop
-Inv-loop shape image work₀ table i out₀ cycle columns change least j₀ base₀ work out j base = (j < columns) × (base ≡ j * shape .cycle) × RowSums shape image (i + 1) work 0 (j + 1) × RowSums shape image i work (j + 1) columns × Holds work change (shape .cycle) (rowChange shape image i j) × Beyond shape work₀ work × Row shape image (i + 1) out (j + 1)
+Inv-loop shape image work₀ table i out₀ cycle columns change least j₀ base₀ work out j base = (j < columns) × (base ≡ j * shape .cycle) × RowSums
+    shape image (i + 1) work 0 (j + 1) × RowSums shape image i work (j + 1) columns × Holds work change (shape .cycle) (rowChange shape image i j) ×
+    Beyond shape work₀ work × Row shape image (i + 1) out (j + 1)
 
 abbrev μ-loop : tie.MeasureT-loop
 μ-loop shape image work₀ table i out₀ cycle columns change least j₀ base₀ work out j base = columns - j
@@ -33,8 +35,14 @@ start-row-requires : tie.Need-start-row-requires Inv-loop μ-loop
 start-row-requires c κs =
     let s = c .before .before .before .before .before .before .before in
     let a = s .args in
-    let g = s .pre .0 .0 in
-    ((g, s .pre .0 .1), ((omega arith, omega arith), holds-at (a .work .now) (a .shape .cycle) (windowSum (a .shape) (a .image .now) (a .i) 0) (omega arith) (s .pre .1 .2 0 (omega arith) (accepted g .columns-some))))
+    let g = s .pre .0 .0 in (
+      (g, s .pre .0 .1),
+      (
+        (omega arith, omega arith),
+        holds-at (a .work .now) (a .shape .cycle) (windowSum (a .shape) (a .image .now) (a .i) 0)
+            (omega arith) (s .pre .1 .2 0 (omega arith) (accepted g .columns-some)),
+      ),
+    )
 
 add-phase-of : tie.Need-add-phase-of Inv-loop μ-loop
 add-phase-of c = search needs
@@ -94,7 +102,11 @@ advance-requires c κs =
       (given-kept g (l .inv .5 .len ∙ x .0 .len), s .pre .0 .1),
       (
         (omega arith, omega arith, omega (arith, l .inv .1), refl),
-        (holds-at (l .work) (sh .cycle) (windowSum sh im (a .i) (l .j + 1)) (omega (arith, l .inv .1)) (l .inv .3 (l .j + 1) (omega arith) (omega arith)), l .inv .4),
+        (
+          holds-at (l .work) (sh .cycle) (windowSum sh im (a .i) (l .j + 1)) (omega (arith, l .inv .1))
+              (l .inv .3 (l .j + 1) (omega arith) (omega arith)),
+          l .inv .4,
+        ),
       ),
     )
 

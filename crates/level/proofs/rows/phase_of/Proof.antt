@@ -16,9 +16,11 @@ use Rattle.level.proofs.rows.phase_of.Statement.{statement}
 use Rattle.level.proofs.rows.phase_of.Tie as tie
 
 -- the centre is a tick
-middle : (c : tie.After-wide) → let a = c .before .before .before .before .before .args in getD (a .image .now) (a .i * a .shape .columns + a .j) 0 < a .shape .cycle
+middle : (c : tie.After-wide) → let a = c .before .before .before .before .before .args in getD (a .image .now) (a .i * a .shape .columns + a .j) 0
+    < a .shape .cycle
 unfolding centre
-middle c = let a = c .before .before .before .before .before .args in centre-below (c .before .before .before .before .before .pre .0 .ready) (omega arith) (a .i) (a .j) (omega arith) (omega arith)
+middle c = let a = c .before .before .before .before .before .args in centre-below (c .before .before .before .before .before .pre .0 .ready)
+    (omega arith) (a .i) (a .j) (omega arith) (omega arith)
 
 cast-wide : tie.Need-cast-wide
 cast-wide c = search needs
@@ -79,7 +81,8 @@ unfolding phase centre
 returns c =
     let s = c .before .before .before .before .before .before .before in
     let a = s .args in
-    chosen-by-sums (a .shape .cycle) (centre 0 (a .shape) (a .image .now) (a .i) (a .j)) (window 0 (a .shape) (a .image .now) (a .i) (a .j)) (middle (c .before .before))
+    chosen-by-sums (a .shape .cycle) (centre 0 (a .shape) (a .image .now) (a .i) (a .j)) (window 0 (a .shape) (a .image .now) (a .i) (a .j))
+    (middle (c .before .before))
     (copied (a .work .now) (a .base)) (c .choose .result) (rw (c .before .before .wide .ensures) at (c .choose .ensures)) (s .pre .1 .1 .0)
 
 pub phase-of-spec : {M : Type 1} → statement M

@@ -20,8 +20,17 @@ lowest-of-requires c κs =
 phase-of-requires : tie.Need-phase-of-requires
 phase-of-requires c κs =
     let s = c .before .before .before .before in
-    let a = s .args in
-    (s .pre .0, (s .pre .1 .0, (s .pre .1 .1, c .lowest-of .ensures ∙ lowest-cong _ (windowSum (a .shape) (a .image .now) (a .i) (a .j)) (a .shape .cycle) (s .pre .1 .1))))
+    let a = s .args in (
+      s .pre .0,
+      (
+        s .pre .1 .0,
+        (
+          s .pre .1 .1,
+          c .lowest-of .ensures
+              ∙ lowest-cong _ (windowSum (a .shape) (a .image .now) (a .i) (a .j)) (a .shape .cycle) (s .pre .1 .1),
+        ),
+      ),
+    )
 
 returns : tie.Need-returns
 returns c = search needs
