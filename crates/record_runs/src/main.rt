@@ -290,16 +290,6 @@ fn changed(at: usize, value: u8) {
     }
 }
 
-fn next_byte(at: usize) -> u8 {
-    let bytes = sheet();
-    if at < 35 {
-        if bytes[at] < 255 {
-            return bytes[at] + 1;
-        }
-    }
-    0
-}
-
 fn cuts() {
     let mut n: usize = 0;
     while n <= 35 {
@@ -308,13 +298,20 @@ fn cuts() {
     }
 }
 
+// One byte of the sheet changed to each value, its own among them.
+fn changed_to_all(at: usize) {
+    let mut value: u8 = 0;
+    while value < 255 {
+        changed(at, value);
+        value += 1;
+    }
+    changed(at, 255);
+}
+
 fn changes() {
     let mut at: usize = 0;
     while at < 35 {
-        changed(at, 0);
-        changed(at, 1);
-        changed(at, 255);
-        changed(at, next_byte(at));
+        changed_to_all(at);
         at += 1;
     }
 }

@@ -13,20 +13,8 @@ abbrev μ-loop : tie.MeasureT-loop
 loop-holds : tie.Need-loop-holds Inv-loop μ-loop
 loop-holds c = search needs
 
-changed-requires : tie.Need-changed-requires Inv-loop μ-loop
-changed-requires c κs = search needs
-
-changed-requires-2 : tie.Need-changed-requires-2 Inv-loop μ-loop
-changed-requires-2 c κs = search needs
-
-changed-requires-3 : tie.Need-changed-requires-3 Inv-loop μ-loop
-changed-requires-3 c κs = search needs
-
-next-byte-requires : tie.Need-next-byte-requires Inv-loop μ-loop
-next-byte-requires c κs = search needs
-
-changed-requires-4 : tie.Need-changed-requires-4 Inv-loop μ-loop
-changed-requires-4 c κs = search needs
+changed-to-all-requires : tie.Need-changed-to-all-requires Inv-loop μ-loop
+changed-to-all-requires c κs = search needs
 
 add-at : tie.Need-add-at Inv-loop μ-loop
 add-at c = search needs
@@ -47,11 +35,7 @@ changes-spec =
     Inv-loop
     μ-loop
     loop-holds
-    changed-requires
-    changed-requires-2
-    changed-requires-3
-    next-byte-requires
-    changed-requires-4
+    changed-to-all-requires
     add-at
     loop-less
     loop-again
