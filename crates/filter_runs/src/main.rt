@@ -287,6 +287,9 @@ fn buffers_refused() {
         &[1, 4, 1, 7],
         [2, 24],
     );
+}
+
+fn work_refused() {
     run(
         b"8 47 numbers",
         [8, 1, 5, 1, 3],
@@ -463,6 +466,7 @@ fn main() {
     reflections();
     ranges_refused();
     buffers_refused();
+    work_refused();
     readings_refused();
     several_refused();
     edges();
