@@ -218,6 +218,10 @@ def level_need(shape):
     return shape[0] * (shape[2] + 1)
 
 
+def reading_need(shape):
+    return shape[3] * shape[4] * (shape[2] + 1)
+
+
 def filtered(shape, first, end, image, output):
     """The output of an accepted call: the rows of the range written, the rest kept."""
     n = shape[2]

@@ -1,7 +1,7 @@
 -- Laws of a filter call: what acceptance says, and the work memory that it leaves. Assumes nothing.
 use Prim.Native.Nat.{ℕ, _+_, _*_, _^_, _≤_, _<_}
-use mathlib.Core.Path.{_≡_, refl, ap, sym, _∙_}
-use mathlib.Core.List.{List}
+use mathlib.Core.Path.{_≡_, ap, sym, _∙_}
+use mathlib.Core.List.{List, _++_}
 use native.Mathlib.Omega.{arith}
 use native.Mathlib.Decide.{decLt}
 use native.Mathlib.Nat.{mul-le-mul, zero-add}
@@ -14,17 +14,19 @@ use Rattle.lists.proofs.Written.{length-written, written-inside, written-after}
 use Rattle.refusal.specs.declared.Refusal.{Refusal}
 use Rattle.refusal.specs.declared.Verdict.{Verdict}
 use Rattle.refusal.specs.Outcome.{Rule, firstDue, Clear, verdict}
-use Rattle.refusal.proofs.Outcome.{clear-accepted, passed-clear, passed-on, refused-alone, refused-before}
+use Rattle.refusal.specs.Outcome.Outcome.{accepted}
+use Rattle.refusal.proofs.Outcome.{accepted-clear, clear-split, passed-on, refused-before}
+use Rattle.refusal.specs.Limits.{longestCycle}
 use Rattle.cycle.specs.Distance.{isReading}
 use Rattle.shape.specs.Rules.{shapeRules, area}
 use Rattle.shape.specs.declared.Shape.{Shape}
 use Rattle.memory.specs.Memory.{Changed}
 use Rattle.memory.specs.Parts.{zeros}
 use Rattle.window.specs.Ready.{Ready}
-use Rattle.window.specs.Phase.{phaseAt}
-use Rattle.filter.specs.declared.FilterAnswer.the-variants.{Filtered, Refused}
-use Rattle.filter.specs.Calls.{Engine, imageRules, filterCall, Call}
 use Rattle.refusal.specs.declared.Verdict.the-variants as verdicts
+use Rattle.filter.specs.declared.Engine.{Engine}
+use Rattle.filter.specs.declared.Engine.the-variants.{Level, Reading}
+use Rattle.filter.specs.Calls.{limit, need, imageRules, filterCall}
 
 -- a product of two numbers of 32 bits fits 64
 pub product-fits : (a b : ℕ) → a < 2 ^ 32 → b < 2 ^ 32 + 1 → a * b < 2 ^ 64
@@ -68,26 +70,36 @@ zeroed {w} {w′} {need} w₀ room len beyond x =
         ∙ sym (written-inside (λ k. 0) 0 need w₀ (omega arith) room 0 k (omega arith) h)
     at k (no h) = x .after k (omega arith) ∙ beyond k (omega arith) ∙ sym (written-after (λ k. 0) 0 need w₀ (omega arith) room 0 k (omega arith))
 
--- The three ways in which a call of either engine ends, from the verdicts of its two groups of tests.
-module _ (e : Engine) (s : Shape) (first end : ℕ) (image output work : List ℕ) where
-  abbrev tests : List Rule
-  tests = imageRules s (e .need) first end image (length output) (length work)
+-- How the tests of a call come out, from the verdicts of its two groups.
+module _ (e : Engine) (s : Shape) (first end : ℕ) (image : List ℕ) (output work : ℕ) where
+  abbrev shape-tests : List Rule
+  shape-tests = shapeRules (limit e) s
 
-  pub shape-refuses : {r : Verdict} {f : Refusal} → verdict r ≡ firstDue (shapeRules (e .limit) s) tt → r ≡ verdicts.Refused f
-      → Call e s first end image output work (Refused f) output work
+  abbrev image-tests : List Rule
+  image-tests = imageRules s (need e s) first end image output work
+
+  pub shape-refused : {r : Verdict} {f : Refusal} → verdict r ≡ firstDue shape-tests tt → r ≡ verdicts.Refused f
+      → verdict (verdicts.Refused f) ≡ filterCall e s first end image output work
   unfolding filterCall
-  shape-refuses said is = record { answer = sym (refused-before (shapeRules (e .limit) s) said tt tests is); output = refl; work = refl }
+  shape-refused said is = sym (refused-before shape-tests said tt image-tests is)
 
-  module _ {r : Verdict} (said : verdict r ≡ firstDue (shapeRules (e .limit) s) tt) (passed : r ≡ verdicts.Passed) where
-    on : filterCall e s first end image (length output) (length work) ≡ firstDue tests tt
-    unfolding filterCall
-    on = passed-on (shapeRules (e .limit) s) said tt tests passed
+  pub shape-passed : {r : Verdict} (v : Verdict) → verdict r ≡ firstDue shape-tests tt → r ≡ verdicts.Passed → verdict v ≡ firstDue image-tests tt
+      → verdict v ≡ filterCall e s first end image output work
+  unfolding filterCall
+  shape-passed v said is then = then ∙ sym (passed-on shape-tests said tt image-tests is)
 
-    pub image-refuses : {v : Verdict} {f : Refusal} → verdict v ≡ firstDue tests tt → v ≡ verdicts.Refused f
-        → Call e s first end image output work (Refused f) output work
-    image-refuses then is = record { answer = sym (on ∙ refused-alone tests then tt is); output = refl; work = refl }
+  -- every test is clear where the call is accepted
+  pub tests-clear : filterCall e s first end image output work ≡ accepted tt → Clear shape-tests × Clear image-tests
+  unfolding filterCall
+  tests-clear said = clear-split shape-tests image-tests (accepted-clear tt (shape-tests ++ image-tests) tt said)
 
-    pub accepts : {v : Verdict} {output₁ work₁ : List ℕ} → verdict v ≡ firstDue tests tt → v ≡ verdicts.Passed
-        → output₁ ≡ written (phaseAt s image) (first * s .columns) (end * s .columns) output → work₁ ≡ written (λ k. 0) 0 (e .need) work
-        → Call e s first end image output work Filtered output₁ work₁
-    accepts then is o w = record { answer = sym (on ∙ clear-accepted tt tests (passed-clear tests then is)); output = o; work = w }
+  pub call-tested : filterCall e s first end image output work ≡ accepted tt → Image s (need e s) first end image output work
+  call-tested said = image-clear s (need e s) first end image output work (tests-clear said .1)
+
+  pub call-ready : filterCall e s first end image output work ≡ accepted tt → Ready (limit e) s image
+  call-ready said = image-ready (tests-clear said .0) (call-tested said)
+
+-- every engine's cycles are cycles
+pub limit-fits : (e : Engine) → limit e ≤ longestCycle
+limit-fits Level = omega arith
+limit-fits Reading = omega arith

@@ -1,2 +1,2 @@
 pub mod CallLaws
-pub mod Filtered
+pub mod Demand3

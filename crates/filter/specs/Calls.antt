@@ -1,38 +1,41 @@
 -- What a filter call is answered and what it leaves in lent memory (document 01, "Two engines, lent memory" and "Refused calls").
 -- The two engines differ in the cycles that they take and in the work memory that they need, and in nothing else.
-use Prim.Native.Nat.{ℕ, _+_, _*_}
+use Prim.Native.Nat.{ℕ, _+_, _*_, _≤_, _<_}
 use mathlib.Core.Path.{_≡_}
 use mathlib.Core.List.{List, [], _∷_, _++_}
-use lib.ListN.{length}
+use lib.ListN.{length, getD}
 use Rattle.lists.specs.Tabulate.{written}
-use Rattle.refusal.specs.Limits.{levelCycle}
+use Rattle.refusal.specs.Limits.{longestCycle, levelCycle}
 use Rattle.refusal.specs.Outcome.{Outcome, Rule, firstDue, refusal, leaves}
 use Rattle.refusal.specs.Outcome.Outcome.{accepted}
 use Rattle.cycle.specs.Calls.{readingRule}
 use Rattle.shape.specs.Rules.{shapeRules, area, rowsRules, inputRule, bufferRule, workRule}
 use Rattle.shape.specs.declared.Shape.{Shape}
 use Rattle.window.specs.Phase.{phaseAt}
+use Rattle.filter.specs.declared.Engine.{Engine}
+use Rattle.filter.specs.declared.Engine.the-variants.{Level, Reading}
 use Rattle.filter.specs.declared.FilterAnswer.{FilterAnswer}
 use Rattle.filter.specs.declared.FilterAnswer.the-variants.{Filtered, Refused}
 
--- what an engine takes: cycles up to a limit, and so many numbers of work memory
-pub record Engine : Type 0 where
-  pub limit : ℕ
-  pub need : ℕ
+-- the cycles that an engine takes: the level engine "takes C up to 4,096", the reading engine "takes every C"
+abbrev pub limit : Engine → ℕ
+limit Level = levelCycle
+limit Reading = longestCycle
 
--- the level engine "takes C up to 4,096 and needs C·(N + 1) numbers of work memory"
-abbrev pub levelEngine : Shape → Engine
-levelEngine s = record { limit = levelCycle; need = s .cycle * (s .columns + 1) }
+-- the numbers of work memory: C·(N + 1) of the level engine, R·T·(N + 1) of the reading engine
+abbrev pub need : Engine → Shape → ℕ
+need Level s = s .cycle * (s .columns + 1)
+need Reading s = s .«mask_rows» * s .«mask_columns» * (s .columns + 1)
 
 -- 5 to 9
 abbrev pub imageRules : Shape → ℕ → ℕ → ℕ → List ℕ → ℕ → ℕ → List Rule
-imageRules s need first end image output work =
+imageRules s room first end image output work =
     rowsRules (s .rows) first end
-    ++ (inputRule (area s) (length image) ∷ bufferRule (area s) output ∷ workRule need work ∷ readingRule (s .cycle) image ∷ [])
+    ++ (inputRule (area s) (length image) ∷ bufferRule (area s) output ∷ workRule room work ∷ readingRule (s .cycle) image ∷ [])
 
 -- the tests of a filter in rising order, and its answer
 unfoldable pub filterCall : Engine → Shape → ℕ → ℕ → List ℕ → ℕ → ℕ → Outcome Unit
-filterCall e s first end image output work = firstDue (shapeRules (e .limit) s ++ imageRules s (e .need) first end image output work) tt
+filterCall e s first end image output work = firstDue (shapeRules (limit e) s ++ imageRules s (need e s) first end image output work) tt
 
 abbrev pub filterTold : FilterAnswer → Outcome Unit
 filterTold Filtered = accepted tt
@@ -43,4 +46,8 @@ filterTold (Refused r) = refusal r
 pub record Call (e : Engine) (s : Shape) (first end : ℕ) (image output₀ work₀ : List ℕ) (r : FilterAnswer) (output₁ work₁ : List ℕ) : Type 0 where
   pub answer : filterTold r ≡ filterCall e s first end image (length output₀) (length work₀)
   pub output : output₁ ≡ leaves (filterTold r) (written (phaseAt s image) (first * s .columns) (end * s .columns) output₀) output₀
-  pub work : work₁ ≡ leaves (filterTold r) (written (λ k. 0) 0 (e .need) work₀) work₀
+  pub work : work₁ ≡ leaves (filterTold r) (written (λ k. 0) 0 (need e s) work₀) work₀
+
+-- "Two outputs have the same rows if their numbers at i·N + j are equal for each row i of the range and each column j."
+abbrev pub SameRows : Shape → ℕ → ℕ → List ℕ → List ℕ → Type 0
+SameRows s first end a b = (i j : ℕ) → first ≤ i → i < end → j < s .columns → getD a (i * s .columns + j) 0 ≡ getD b (i * s .columns + j) 0

@@ -1,24 +1,60 @@
 // The filter calls of document 01: each tests everything before it touches anything, filters the rows of
-// its range, and leaves the needed work memory zero.
-pub mod verdicts;
+// its range, and leaves the needed work memory zero. The two engines differ in the cycles that they take,
+// in the work memory that they need and in speed; they write the same rows.
+mod engines;
+mod verdicts;
 
-use level::rows::fill;
+use engines::fill;
+use engines::need_of;
 use memory::clear;
 use refusal::Refusal;
 use refusal::Verdict;
-use refusal::limits::LEVEL_CYCLE;
 use shape::Shape;
-use shape::shape_verdict;
-use verdicts::image_verdict;
-ghost use Rattle.filter.specs.Calls.{levelEngine, Call};
+use verdicts::judge;
+ghost use Rattle.filter.specs.declared.Engine.the-variants.{Level, Reading};
+ghost use Rattle.filter.specs.Calls.{Call};
+
+pub enum Engine {
+    Level,
+    Reading,
+}
 
 pub enum FilterAnswer {
     Filtered,
     Refused(Refusal),
 }
 
-// The level engine: cycles up to 4,096, and C·(N + 1) numbers of work memory. Rows from first up to end
-// are written, each at its own spot of the whole image.
+// Rows from first up to end are written by an engine, each at its own spot of the whole image.
+pub fn run(
+    engine: Engine,
+    shape: Shape,
+    first: u32,
+    end: u32,
+    input: &[u16],
+    output: &mut [u16],
+    work: &mut [u32],
+) -> FilterAnswer
+    ensures { λ r. ⌜ Call engine shape first end (now (input .entry)) (now (output .entry)) (now (work .entry)) r (now (output .exit)) (now (work .exit)) ⌝ }
+{
+    match judge(engine, shape, first, end, input, output.len(), work.len()) {
+        Verdict::Refused(f) => FilterAnswer::Refused(f),
+        Verdict::Passed => {
+            fill(
+                engine,
+                shape,
+                first as usize,
+                end as usize,
+                input,
+                output,
+                work,
+            );
+            clear(work, 0, need_of(engine, shape));
+            FilterAnswer::Filtered
+        }
+    }
+}
+
+// The level engine: cycles up to 4,096, and C·(N + 1) numbers of work memory.
 pub fn level(
     shape: Shape,
     first: u32,
@@ -27,20 +63,21 @@ pub fn level(
     output: &mut [u16],
     work: &mut [u32],
 ) -> FilterAnswer
-    ensures { λ r. ⌜ Call (levelEngine shape) shape first end (now (input .entry)) (now (output .entry)) (now (work .entry)) r (now (output .exit)) (now (work .exit)) ⌝ }
+    ensures { λ r. ⌜ Call Level shape first end (now (input .entry)) (now (output .entry)) (now (work .entry)) r (now (output .exit)) (now (work .exit)) ⌝ }
 {
-    match shape_verdict(LEVEL_CYCLE, shape) {
-        Verdict::Refused(f) => FilterAnswer::Refused(f),
-        Verdict::Passed => {
-            let need = (shape.cycle as usize) * (shape.columns as usize + 1);
-            match image_verdict(shape, need, first, end, input, output.len(), work.len()) {
-                Verdict::Refused(f) => FilterAnswer::Refused(f),
-                Verdict::Passed => {
-                    fill(shape, first as usize, end as usize, input, output, work);
-                    clear(work, 0, need);
-                    FilterAnswer::Filtered
-                }
-            }
-        }
-    }
+    run(Engine::Level, shape, first, end, input, output, work)
+}
+
+// The reading engine: every cycle, and R·T·(N + 1) numbers of work memory.
+pub fn reading(
+    shape: Shape,
+    first: u32,
+    end: u32,
+    input: &[u16],
+    output: &mut [u16],
+    work: &mut [u32],
+) -> FilterAnswer
+    ensures { λ r. ⌜ Call Reading shape first end (now (input .entry)) (now (output .entry)) (now (work .entry)) r (now (output .exit)) (now (work .exit)) ⌝ }
+{
+    run(Engine::Reading, shape, first, end, input, output, work)
 }

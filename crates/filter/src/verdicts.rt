@@ -1,13 +1,18 @@
-// Tests 5 to 9 of a filter, which follow those on the shape.
+// The tests of a filter in rising order: 1 to 4 on the shape, then 5 to 9.
+use crate::Engine;
+use crate::engines::limit_of;
+use crate::engines::need_of;
 use cycle::reading_verdict;
 use refusal::Refusal;
 use refusal::Verdict;
 use shape::Shape;
+use shape::shape_verdict;
 ghost use mathlib.Core.Path.{_≡_};
 ghost use Rattle.refusal.specs.Outcome.{firstDue, verdict};
-ghost use Rattle.filter.specs.Calls.{imageRules};
+ghost use Rattle.filter.specs.Calls.{imageRules, filterCall};
 
-pub fn image_verdict(
+// 5 to 9, for an engine that needs so many numbers of work memory.
+fn image_verdict(
     shape: Shape,
     need: usize,
     first: u32,
@@ -35,4 +40,30 @@ pub fn image_verdict(
         return Verdict::Refused(Refusal::Work);
     }
     reading_verdict(shape.cycle, input)
+}
+
+// All tests of a call of an engine.
+pub fn judge(
+    engine: Engine,
+    shape: Shape,
+    first: u32,
+    end: u32,
+    input: &[u16],
+    output: usize,
+    work: usize,
+) -> Verdict
+    ensures { λ r. ⌜ verdict r ≡ filterCall engine shape first end (now (input .entry)) output work ⌝ }
+{
+    match shape_verdict(limit_of(engine), shape) {
+        Verdict::Refused(f) => Verdict::Refused(f),
+        Verdict::Passed => image_verdict(
+            shape,
+            need_of(engine, shape),
+            first,
+            end,
+            input,
+            output,
+            work,
+        ),
+    }
 }

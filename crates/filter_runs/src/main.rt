@@ -1,7 +1,8 @@
-// Runs the level filter and prints, for each case, its answer, all of its output, and its work memory:
-// the examples of document 01 that concern the filter, its refusals alone and together, the mistakes
-// that it lists, and edges of the image, the mask and the range. Output and work memory are filled with
-// 9 and 7 before each call.
+// Runs both engines on each case, the reading engine once more with memory to spare, and prints the
+// answer, all of the output, and the work memory: the examples of document 01 that concern the filter,
+// its refusals alone and together, the mistakes that it lists, and edges of the image, the mask and the
+// range. Output and work memory are filled with 9 and 7 before each call.
+use filter::Engine;
 use filter::FilterAnswer;
 use libc::STDOUT_FILENO;
 use shape::Shape;
@@ -63,8 +64,15 @@ fn say_work(work: &[u32]) {
     say(b"\n");
 }
 
-fn call(shape: Shape, first: u32, end: u32, input: &[u16], output: &mut [u16], work: &mut [u32]) {
-    say_answer(filter::level(shape, first, end, input, output, work));
+fn call(
+    engine: Engine,
+    shape: Shape,
+    range: [u32; 2],
+    input: &[u16],
+    output: &mut [u16],
+    work: &mut [u32],
+) {
+    say_answer(filter::run(engine, shape, range[0], range[1], input, output, work));
     say(b" | output:");
     say_row(output);
     say_work(work);
@@ -72,6 +80,7 @@ fn call(shape: Shape, first: u32, end: u32, input: &[u16], output: &mut [u16], w
 
 // Lends the first so many numbers of the work memory.
 fn lend_work(
+    engine: Engine,
     shape: Shape,
     range: [u32; 2],
     input: &[u16],
@@ -82,9 +91,9 @@ fn lend_work(
     let start = 0;
     if length <= work.len() {
         call(
+            engine,
             shape,
-            range[0],
-            range[1],
+            range,
             input,
             output,
             &mut work[start..length],
@@ -94,6 +103,7 @@ fn lend_work(
 
 // Lends the first so many numbers of the output.
 fn lend(
+    engine: Engine,
     shape: Shape,
     range: [u32; 2],
     input: &[u16],
@@ -105,6 +115,7 @@ fn lend(
     let mut sums = [7u32; 20736];
     if length <= output.len() {
         lend_work(
+            engine,
             shape,
             range,
             input,
@@ -115,19 +126,60 @@ fn lend(
     }
 }
 
-// A call: cycle, rows, columns and mask sides; first and end row; the image; the lengths of the output
-// and of the work memory.
-fn run(name: &[u8], sizes: [u32; 5], range: [u32; 2], input: &[u16], lengths: [usize; 2]) {
+// A call of one engine, with output memory of its own.
+fn run_one(
+    engine: Engine,
+    name: &[u8],
+    by: &[u8],
+    sizes: [u32; 5],
+    range: [u32; 2],
+    input: &[u16],
+    lengths: [usize; 2],
+) {
     let mut memory = [9u16; 128];
     say(name);
-    say(b": ");
+    say(by);
     lend(
+        engine,
         shape_of(sizes),
         range,
         input,
         &mut memory,
         lengths[0],
         lengths[1],
+    );
+}
+
+// A case: cycle, rows, columns and mask sides; first and end row; the image; the lengths of the output
+// and of the work memory.
+fn run(name: &[u8], sizes: [u32; 5], range: [u32; 2], input: &[u16], lengths: [usize; 2]) {
+    run_one(
+        Engine::Level,
+        name,
+        b", level: ",
+        sizes,
+        range,
+        input,
+        lengths,
+    );
+    run_one(
+        Engine::Reading,
+        name,
+        b", reading: ",
+        sizes,
+        range,
+        input,
+        lengths,
+    );
+    let more = [lengths[0], 20736];
+    run_one(
+        Engine::Reading,
+        name,
+        b", memory to spare: ",
+        sizes,
+        range,
+        input,
+        more,
     );
 }
 

@@ -1,6 +1,2 @@
 pub mod Outward
-pub mod TableLaws
-pub mod Spots
-pub mod Running
-pub mod ColumnLaws
 pub mod RowLaws

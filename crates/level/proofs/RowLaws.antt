@@ -1,6 +1,6 @@
 -- Rows of sums in the work memory, column by column, and the row of phases that is written. Assumes nothing.
 use Prim.Native.Nat.{ℕ, _+_, _*_, _≤_, _<_}
-use mathlib.Core.Path.{_≡_, refl, ap, sym, _∙_}
+use mathlib.Core.Path.{_≡_, ap, sym, _∙_}
 use mathlib.Core.List.{List}
 use native.Mathlib.Omega.{arith}
 use native.Mathlib.Decide.{ℕ-discrete}
@@ -10,10 +10,10 @@ use lib.Seq.{getD-set-same, getD-set-other, ext-getD}
 use Rattle.lists.specs.Tabulate.{tabulate}
 use Rattle.lists.proofs.Tabulate.{length-tabulate, getD-tabulate}
 use Rattle.shape.specs.declared.Shape.{Shape}
-use Rattle.memory.specs.Memory.{Holds, Changed, ChangedBoth}
+use Rattle.memory.specs.Memory.{Holds, Changed, Outside, ChangedBoth}
 use Rattle.window.specs.Phase.{phase, phaseAt}
 use Rattle.window.proofs.Phase.{phase-at}
-use Rattle.level.specs.Sums.{Given, windowSum, RowSums, Beyond}
+use Rattle.level_sums.specs.Sums.{Given, windowSum, RowSums}
 
 -- the first j phases of row i are written
 pub record Row (s : Shape) (image : List ℕ) (i : ℕ) (out : List ℕ) (j : ℕ) : Type 0 where
@@ -68,18 +68,13 @@ module _ (s : Shape) (image : List ℕ) where
         ∙ r l (omega arith) b q g
 
   -- a column or the differences changed: nothing past the need did
-  pub changed-beyond : {w w′ : List ℕ} {place : ℕ} {f : ℕ → ℕ} → Changed w w′ place (s .cycle) f → place ≤ s .columns * s .cycle → Beyond s w w′
-  changed-beyond x h = record { len = x .len; after = λ k g. x .after k (omega arith) }
+  pub changed-outside : {w w′ : List ℕ} {place : ℕ} {f : ℕ → ℕ} → Changed w w′ place (s .cycle) f → place ≤ s .columns * s .cycle
+      → Outside w w′ 0 (s .columns * s .cycle + s .cycle)
+  changed-outside x h = record { len = x .len; before = λ k g. absurd (omega arith); after = λ k g. x .after k (omega arith) }
 
-  pub turned-beyond : {w w′ : List ℕ} {place change : ℕ} {f z : ℕ → ℕ} → ChangedBoth w w′ place change (s .cycle) f z → change ≡ s .columns * s .cycle
-      → Beyond s w w′
-  turned-beyond x d = record { len = x .len; after = λ k g. x .after k (omega arith) }
-
-pub beyond-none : {s : Shape} {w : List ℕ} → Beyond s w w
-beyond-none = record { len = refl; after = λ k h. refl }
-
-pub beyond-more : {s : Shape} {u v w : List ℕ} → Beyond s u v → Beyond s v w → Beyond s u w
-beyond-more a b = record { len = b .len ∙ a .len; after = λ k h. b .after k h ∙ a .after k h }
+  pub turned-outside : {w w′ : List ℕ} {place change : ℕ} {f z : ℕ → ℕ} → ChangedBoth w w′ place change (s .cycle) f z → change ≡ s .columns * s .cycle
+      → Outside w w′ 0 (s .columns * s .cycle + s .cycle)
+  turned-outside x d = record { len = x .len; before = λ k g. absurd (omega arith); after = λ k g. x .after k (omega arith) }
 
 -- memory of the same length serves as well
 pub given-kept : {s : Shape} {image : List ℕ} {n m : ℕ} → Given s image n → m ≡ n → Given s image m

@@ -1,11 +1,11 @@
 // A row of the output: the first of a range, and each later one from the row before it.
 use crate::choice::choose;
-use crate::columns::advance;
-use crate::columns::first_column;
-use crate::columns::next_column;
-use crate::columns::start_row;
-use crate::columns::wide;
-use crate::table::distances;
+use level_sums::columns::advance;
+use level_sums::columns::first_column;
+use level_sums::columns::next_column;
+use level_sums::columns::start_row;
+use level_sums::columns::wide;
+use level_sums::table::distances;
 use memory::lowest_of;
 use shape::Shape;
 ghost use mathlib.Core.Path.{_≡_};
@@ -13,10 +13,10 @@ ghost use Prim.Native.Nat.{_+_, _*_, _≤_, _<_};
 ghost use lib.ListN.{length};
 ghost use Rattle.lists.specs.Tabulate.{tabulate, written};
 ghost use Rattle.shape.specs.Rules.{area};
-ghost use Rattle.memory.specs.Memory.{Holds, lowest};
+ghost use Rattle.memory.specs.Memory.{Holds, Outside, lowest};
 ghost use Rattle.window.specs.Phase.{phase, phaseAt};
-ghost use Rattle.level.specs.Table.{Table};
-ghost use Rattle.level.specs.Sums.{Given, windowSum, RowSums, Beyond};
+ghost use Rattle.level_sums.specs.Table.{Table};
+ghost use Rattle.level_sums.specs.Sums.{Given, windowSum, RowSums};
 
 // The phase of row i and column j, from its sums, of which least is the lowest.
 fn phase_of(
@@ -61,7 +61,7 @@ fn first_row(
     requires { ⌜ Given shape (now image) (length (now work)) × Table (shape .cycle) (now table) ⌝ }
     requires { ⌜ (i < shape .rows) × (length (now out) ≡ shape .columns) ⌝ }
     ensures { λ _. ⌜ now (out .exit) ≡ tabulate (phaseAt shape (now (image .entry))) (i * shape .columns) (shape .columns) ⌝ }
-    ensures { λ _. ⌜ RowSums shape (now (image .entry)) i (now (work .exit)) 0 (shape .columns) × Beyond shape (now (work .entry)) (now (work .exit)) ⌝ }
+    ensures { λ _. ⌜ RowSums shape (now (image .entry)) i (now (work .exit)) 0 (shape .columns) × Outside (now (work .entry)) (now (work .exit)) 0 (shape .columns * shape .cycle + shape .cycle) ⌝ }
 {
     let cycle = shape.cycle as usize;
     let columns = shape.columns as usize;
@@ -82,7 +82,7 @@ fn next_row(shape: Shape, image: &[u16], work: &mut [u32], table: &[u32], i: usi
     requires { ⌜ Given shape (now image) (length (now work)) × Table (shape .cycle) (now table) ⌝ }
     requires { ⌜ (i + 1 < shape .rows) × (length (now out) ≡ shape .columns) × RowSums shape (now image) i (now work) 0 (shape .columns) ⌝ }
     ensures { λ _. ⌜ now (out .exit) ≡ tabulate (phaseAt shape (now (image .entry))) ((i + 1) * shape .columns) (shape .columns) ⌝ }
-    ensures { λ _. ⌜ RowSums shape (now (image .entry)) (i + 1) (now (work .exit)) 0 (shape .columns) × Beyond shape (now (work .entry)) (now (work .exit)) ⌝ }
+    ensures { λ _. ⌜ RowSums shape (now (image .entry)) (i + 1) (now (work .exit)) 0 (shape .columns) × Outside (now (work .entry)) (now (work .exit)) 0 (shape .columns * shape .cycle + shape .cycle) ⌝ }
 {
     let cycle = shape.cycle as usize;
     let columns = shape.columns as usize;
@@ -111,7 +111,7 @@ pub fn fill(
     requires { ⌜ Given shape (now image) (length (now work)) ⌝ }
     requires { ⌜ (first ≤ end) × (end ≤ shape .rows) × (area shape ≤ length (now output)) ⌝ }
     ensures { λ _. ⌜ now (output .exit) ≡ written (phaseAt shape (now (image .entry))) (first * shape .columns) (end * shape .columns) (now (output .entry)) ⌝ }
-    ensures { λ _. ⌜ Beyond shape (now (work .entry)) (now (work .exit)) ⌝ }
+    ensures { λ _. ⌜ Outside (now (work .entry)) (now (work .exit)) 0 (shape .columns * shape .cycle + shape .cycle) ⌝ }
 {
     if first == end {
         return;

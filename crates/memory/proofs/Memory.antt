@@ -6,7 +6,7 @@ use native.Mathlib.Omega.{arith}
 use native.Mathlib.Decide.{ℕ-discrete}
 use lib.ListN.{length, getD, set, length-set}
 use lib.Seq.{getD-set-same, getD-set-other}
-use Rattle.memory.specs.Memory.{Holds, Changed, ChangedBoth}
+use Rattle.memory.specs.Memory.{Holds, Changed, Outside, ChangedBoth}
 
 -- a part with one number more
 holds-turn : (w : List ℕ) (base q : ℕ) (f : ℕ → ℕ) (v : ℕ) → Holds w base q f → base + q < length w → v ≡ f q → Holds (set w (base + q) v) base (q + 1) f
@@ -27,6 +27,10 @@ module _ {w₀ : List ℕ} {base : ℕ} {f : ℕ → ℕ} where
     holds = holds-turn w base q f v (c .holds) (omega (arith, c .len)) e;
     after = λ k h. getD-set-other w (base + q) k v 0 (omega arith) ∙ c .after k (omega arith);
   }
+
+-- the same for a part that starts at place 0
+pub changed-turn-first : {w₀ w : List ℕ} {f : ℕ → ℕ} {q v : ℕ} → Changed w₀ w 0 q f → q < length w₀ → v ≡ f q → Changed w₀ (set w q v) 0 (q + 1) f
+changed-turn-first {q = q} c room e = let z : 0 + q ≡ q = omega arith in rw z at (changed-turn c (omega arith) e)
 
 module _ {w₀ : List ℕ} {base other : ℕ} {f g : ℕ → ℕ} where
   pub both-start : ChangedBoth w₀ w₀ base other 0 f g
@@ -68,6 +72,17 @@ changed-again c d = record {
   len = d .len ∙ c .len;
   before = λ k h. d .before k h ∙ c .before k h;
   holds = d .holds;
+  after = λ k h. d .after k h ∙ c .after k h;
+}
+
+-- nothing changed, or changed again, and each time outside of the part all is as it was
+pub outside-none : {w : List ℕ} {base n : ℕ} → Outside w w base n
+outside-none = record { len = refl; before = λ k h. refl; after = λ k h. refl }
+
+pub outside-more : {u v w : List ℕ} {base n : ℕ} → Outside u v base n → Outside v w base n → Outside u w base n
+outside-more c d = record {
+  len = d .len ∙ c .len;
+  before = λ k h. d .before k h ∙ c .before k h;
   after = λ k h. d .after k h ∙ c .after k h;
 }
 

@@ -15,7 +15,13 @@ pub record Changed (w₀ w : List ℕ) (base n : ℕ) (f : ℕ → ℕ) : Type 0
   pub holds : Holds w base n f
   pub after : (k : ℕ) → base + n ≤ k → getD w k 0 ≡ getD w₀ k 0
 
--- the same for two parts of n numbers, the first before the second
+-- w is w₀ outside the n numbers from place base on, whatever those are
+pub record Outside (w₀ w : List ℕ) (base n : ℕ) : Type 0 where
+  pub len : length w ≡ length w₀
+  pub before : (k : ℕ) → k < base → getD w k 0 ≡ getD w₀ k 0
+  pub after : (k : ℕ) → base + n ≤ k → getD w k 0 ≡ getD w₀ k 0
+
+-- w is w₀ but for two parts of n numbers, the first before the second
 pub record ChangedBoth (w₀ w : List ℕ) (base other n : ℕ) (f g : ℕ → ℕ) : Type 0 where
   pub len : length w ≡ length w₀
   pub before : (k : ℕ) → k < base → getD w k 0 ≡ getD w₀ k 0

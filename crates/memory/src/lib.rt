@@ -59,7 +59,7 @@ pub fn swap(work: &mut [u32], base: usize, table: &[u32], come: usize, go: usize
 }
 
 // The lesser of two numbers.
-fn lower(a: u32, b: u32) -> u32
+pub fn lower(a: u32, b: u32) -> u32
     ensures { λ r. ⌜ r ≡ min a b ⌝ }
 {
     if a < b { a } else { b }

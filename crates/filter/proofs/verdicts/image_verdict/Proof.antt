@@ -2,9 +2,9 @@
 use mathlib.Core.Path.{_∙_}
 use native.Mathlib.Omega.{arith}
 use borrow.Author.Needs.{needs}
-use Rattle.filter.proofs.CallLaws.{product-fits}
 use Rattle.refusal.proofs.Outcome.{tests}
 use Rattle.refusal.specs.Outcome.{firstDue}
+use Rattle.filter.proofs.CallLaws.{product-fits}
 use Rattle.filter.proofs.verdicts.image_verdict.Statement.{statement}
 use Rattle.filter.proofs.verdicts.image_verdict.Tie as tie
 

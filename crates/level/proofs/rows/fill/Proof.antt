@@ -5,9 +5,11 @@ use native.Mathlib.Nat.{mul-le-mul-right}
 use native.Mathlib.Omega.{arith}
 use borrow.Author.Needs.{needs}
 use lib.ListN.{length}
-use Rattle.level.proofs.RowLaws.{next-place, beyond-none, beyond-more, given-kept, row-room}
-use Rattle.level.proofs.Spots.{accepted}
-use Rattle.level.specs.Sums.{RowSums, Beyond}
+use Rattle.level.proofs.RowLaws.{next-place, given-kept, row-room}
+use Rattle.level_sums.proofs.Spots.{accepted}
+use Rattle.level_sums.specs.Sums.{RowSums}
+use Rattle.memory.specs.Memory.{Outside}
+use Rattle.memory.proofs.Memory.{outside-none, outside-more}
 use Rattle.window.specs.Phase.{phaseAt}
 use Rattle.shape.proofs.Accepted.{area-fits}
 use Rattle.lists.proofs.Written.{Run, run-start, run-part, written-none, written-join, part-length}
@@ -17,13 +19,14 @@ use Rattle.level.proofs.rows.fill.Tie as tie
 
 abbrev Inv-loop : tie.InvT-loop
 Inv-loop shape first end image output₀ work₀ columns table start stop i₀ output work i = (first ≤ i) × (i < end) × RowSums shape image i work 0
-    (shape .columns) × Beyond shape work₀ work × Run (phaseAt shape image) ((first + 1) * shape .columns) output₀ output ((i + 1) * shape .columns)
+    (shape .columns) × Outside work₀ work 0 (shape .columns * shape .cycle + shape .cycle) × Run (phaseAt shape image)
+    ((first + 1) * shape .columns) output₀ output ((i + 1) * shape .columns)
 
 abbrev μ-loop : tie.MeasureT-loop
 μ-loop shape first end image output₀ work₀ columns table start stop i₀ output work i = end - i
 
 returns : tie.Need-returns Inv-loop μ-loop
-returns c = (rw (c .if1 .taken) (sym (written-none _ _ _)), beyond-none)
+returns c = (rw (c .if1 .taken) (sym (written-none _ _ _)), outside-none)
 
 cast-columns : tie.Need-cast-columns Inv-loop μ-loop
 cast-columns c = search needs
@@ -99,7 +102,7 @@ loop-holds c =
       omega arith,
       omega (arith, c .before .before .before .before .before .before .before .before .before .before .before .if1 .left, s .pre .1),
       c .before .before .before .before .first-row .ensures .1 .0,
-      beyond-none,
+      outside-none,
       run-start,
     )
 
@@ -209,7 +212,7 @@ loop-again c =
       omega arith,
       omega arith,
       y .1 .0,
-      beyond-more (l .inv .3) (y .1 .1),
+      outside-more (l .inv .3) (y .1 .1),
       rw (next-place (l .i + 1) n)
           (run-part (l .inv .4) n _ (omega (arith, room, o .len)) (y .0)),
     )
@@ -253,7 +256,7 @@ returns-2 c =
       rw e at (l .inv .4 .is) ∙ ap (written f ((a .first + 1) * n) (a .end * n))
           (o .is ∙ ap (λ (k : ℕ). written f (a .first * n) k (a .output .now)) (sym (next-place (a .first) n)))
           ∙ written-join 0 f (a .first * n) ((a .first + 1) * n) (a .end * n) (a .output .now) (omega arith) order last,
-      beyond-more (c .before .before .before .before .before .before .first-row .ensures .1 .1) (l .inv .3),
+      outside-more (c .before .before .before .before .before .before .first-row .ensures .1 .1) (l .inv .3),
     )
 
 pub fill-spec : {M : Type 1} → statement M

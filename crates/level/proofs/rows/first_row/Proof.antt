@@ -3,15 +3,17 @@ use Prim.Native.Nat.{_+_, _-_, _*_, _<_}
 use mathlib.Core.Path.{_≡_, sym, _∙_}
 use native.Mathlib.Omega.{arith}
 use borrow.Author.Needs.{needs}
-use Rattle.level.proofs.RowLaws.{Row, row-none, row-turn, row-all, sums-more, changed-beyond, beyond-none, beyond-more, given-kept, holds-at}
-use Rattle.level.proofs.Spots.{accepted, column-room, need-fits}
-use Rattle.level.specs.Sums.{windowSum, RowSums, Beyond}
+use Rattle.level.proofs.RowLaws.{Row, row-none, row-turn, row-all, sums-more, changed-outside, given-kept, holds-at}
+use Rattle.level_sums.proofs.Spots.{accepted, column-room, need-fits}
+use Rattle.level_sums.specs.Sums.{windowSum, RowSums}
+use Rattle.memory.specs.Memory.{Outside}
+use Rattle.memory.proofs.Memory.{outside-none, outside-more}
 use Rattle.level.proofs.rows.first_row.Statement.{statement}
 use Rattle.level.proofs.rows.first_row.Tie as tie
 
 abbrev Inv-loop : tie.InvT-loop
 Inv-loop shape image work₀ table i out₀ cycle columns j₀ base₀ work out j base = (j < columns) × (base ≡ j * shape .cycle) × RowSums shape image i
-    work 0 (j + 1) × Beyond shape work₀ work × Row shape image i out (j + 1)
+    work 0 (j + 1) × Outside work₀ work 0 (shape .columns * shape .cycle + shape .cycle) × Row shape image i out (j + 1)
 
 abbrev μ-loop : tie.MeasureT-loop
 μ-loop shape image work₀ table i out₀ cycle columns j₀ base₀ work out j base = columns - j
@@ -53,7 +55,7 @@ loop-holds c =
       accepted g .columns-some,
       omega arith,
       sums-more (a .shape) (a .image .now) (a .i) 0 (λ l h k. absurd (omega arith)) x (omega arith),
-      beyond-none,
+      outside-none,
       row-turn {out = a .out .now} (row-none (s .pre .1 .1)) (accepted g .columns-some) (c .settled .ensures),
     )
 
@@ -120,7 +122,7 @@ loop-again c =
       omega arith,
       omega (arith, l .inv .1),
       sums-more (a .shape) (a .image .now) (a .i) (l .j + 1) (l .inv .2) y (omega (arith, l .inv .1)),
-      beyond-more (l .inv .3) (changed-beyond (a .shape) (a .image .now) y (omega (arith, l .inv .1, column-room g (l .j) (omega arith)))),
+      outside-more (l .inv .3) (changed-outside (a .shape) (a .image .now) y (omega (arith, l .inv .1, column-room g (l .j) (omega arith)))),
       row-turn (l .inv .4) (omega arith) (c .settled2 .ensures),
     )
 
@@ -149,7 +151,7 @@ returns c =
     let l = c .before .loop in
     let x = c .before .before .before .before .before .before .first-column .ensures in
     let e : l .j + 1 ≡ a .shape .columns = omega arith in
-    (row-all (l .inv .4) (omega arith), (rw e at (l .inv .2), beyond-more (changed-beyond (a .shape) (a .image .now) x (omega arith)) (l .inv .3)))
+    (row-all (l .inv .4) (omega arith), (rw e at (l .inv .2), outside-more (changed-outside (a .shape) (a .image .now) x (omega arith)) (l .inv .3)))
 
 pub first-row-spec : {M : Type 1} → statement M
 first-row-spec =

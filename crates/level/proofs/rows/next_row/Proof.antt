@@ -3,17 +3,18 @@ use Prim.Native.Nat.{_+_, _-_, _*_, _<_}
 use mathlib.Core.Path.{_≡_, sym, _∙_, refl}
 use native.Mathlib.Omega.{arith}
 use borrow.Author.Needs.{needs}
-use Rattle.level.proofs.RowLaws.{Row, row-none, row-turn, row-all, next-more, old-less, turned-beyond, beyond-none, beyond-more, given-kept, holds-at}
-use Rattle.level.proofs.Spots.{accepted, column-room, need-fits}
-use Rattle.level.specs.Sums.{windowSum, rowChange, RowSums, Beyond}
-use Rattle.memory.specs.Memory.{Holds}
+use Rattle.level.proofs.RowLaws.{Row, row-none, row-turn, row-all, next-more, old-less, turned-outside, given-kept, holds-at}
+use Rattle.level_sums.proofs.Spots.{accepted, column-room, need-fits}
+use Rattle.level_sums.specs.Sums.{windowSum, rowChange, RowSums}
+use Rattle.memory.specs.Memory.{Holds, Outside}
+use Rattle.memory.proofs.Memory.{outside-none, outside-more}
 use Rattle.level.proofs.rows.next_row.Statement.{statement}
 use Rattle.level.proofs.rows.next_row.Tie as tie
 
 abbrev Inv-loop : tie.InvT-loop
 Inv-loop shape image work₀ table i out₀ cycle columns change least j₀ base₀ work out j base = (j < columns) × (base ≡ j * shape .cycle) × RowSums
     shape image (i + 1) work 0 (j + 1) × RowSums shape image i work (j + 1) columns × Holds work change (shape .cycle) (rowChange shape image i j) ×
-    Beyond shape work₀ work × Row shape image (i + 1) out (j + 1)
+    Outside work₀ work 0 (shape .columns * shape .cycle + shape .cycle) × Row shape image (i + 1) out (j + 1)
 
 abbrev μ-loop : tie.MeasureT-loop
 μ-loop shape image work₀ table i out₀ cycle columns change least j₀ base₀ work out j base = columns - j
@@ -75,7 +76,7 @@ loop-holds c =
       next-more sh im (a .i) 0 (x .0) (omega arith) refl (accepted g .columns-some) (λ l h k. absurd (omega arith)),
       old-less sh im (a .i) 0 (x .0) (omega arith) refl (accepted g .columns-some) (s .pre .1 .2),
       x .0 .second,
-      beyond-none,
+      outside-none,
       row-turn {out = a .out .now} (row-none (s .pre .1 .1)) (accepted g .columns-some) (c .phase-of .ensures),
     )
 
@@ -159,7 +160,7 @@ loop-again c =
       next-more sh im (a .i) (l .j + 1) (y .0) e refl (omega arith) (l .inv .2),
       old-less sh im (a .i) (l .j + 1) (y .0) e refl (omega arith) (l .inv .3),
       y .0 .second,
-      beyond-more (l .inv .5) (turned-beyond sh im (y .0) refl),
+      outside-more (l .inv .5) (turned-outside sh im (y .0) refl),
       row-turn (l .inv .6) (omega arith) (c .phase-of2 .ensures),
     )
 
@@ -190,7 +191,7 @@ returns c =
     let im = a .image .now in
     let sh = a .shape in
     let e : l .j + 1 ≡ sh .columns = omega arith in
-    (row-all (l .inv .6) (omega arith), (rw e at (l .inv .2), beyond-more (turned-beyond sh im (x .0) refl) (l .inv .5)))
+    (row-all (l .inv .6) (omega arith), (rw e at (l .inv .2), outside-more (turned-outside sh im (x .0) refl) (l .inv .5)))
 
 pub next-row-spec : {M : Type 1} → statement M
 next-row-spec =

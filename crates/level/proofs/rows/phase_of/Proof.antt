@@ -4,7 +4,7 @@ use mathlib.Core.Path.{sym, _∙_}
 use native.Mathlib.Omega.{arith}
 use borrow.Author.Needs.{needs}
 use lib.ListN.{getD}
-use Rattle.level.proofs.Spots.{accepted, column-room}
+use Rattle.level_sums.proofs.Spots.{accepted, column-room}
 use Rattle.window.proofs.Window.{spot-below, centre-below, sum-small}
 use Rattle.window.specs.Phase.{phase}
 use Rattle.window.specs.Window.{window, centre}

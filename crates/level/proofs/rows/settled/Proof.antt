@@ -2,8 +2,8 @@
 use mathlib.Core.Path.{_∙_}
 use native.Mathlib.Omega.{arith}
 use borrow.Author.Needs.{needs}
-use Rattle.level.proofs.Spots.{column-room}
-use Rattle.level.specs.Sums.{windowSum}
+use Rattle.level_sums.proofs.Spots.{column-room}
+use Rattle.level_sums.specs.Sums.{windowSum}
 use Rattle.memory.proofs.Lowest.{lowest-cong}
 use Rattle.level.proofs.rows.settled.Statement.{statement}
 use Rattle.level.proofs.rows.settled.Tie as tie

@@ -1,0 +1,4 @@
+pub mod TableLaws
+pub mod Spots
+pub mod Running
+pub mod ColumnLaws

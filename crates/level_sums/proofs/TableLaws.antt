@@ -1,0 +1,66 @@
+-- The table's part for a reading holds the distances of all ticks to it. Assumes nothing.
+use Prim.Native.Nat.{ℕ, zero, suc, _+_, _-_, _*_, _%_, _^_, _≤_, _<_}
+use mathlib.Core.Path.{_≡_, refl, ap, sym, _∙_}
+use mathlib.Core.List.{List}
+use native.Mathlib.Omega.{arith}
+use native.Mathlib.Decide.{ℕ-discrete}
+use native.Mathlib.Nat.{add-comm, mod-lt}
+use lib.ListN.{length, getD, set, replicate, length-set, length-replicate}
+use lib.Seq.{getD-set-same, getD-set-other}
+use Rattle.cycle.specs.Distance.{distance}
+use Rattle.cycle.specs.Step.{ahead}
+use Rattle.cycle.proofs.DistanceLaws.{distance-half, distance-symmetric}
+use Rattle.cycle.proofs.Ways.{ahead-way, distance-way}
+use Rattle.cycle.proofs.Ways.Way.{straight}
+use Rattle.level_sums.specs.Table.{Table}
+
+-- the distance of q and y is that of the way from y to q and tick 0
+turn-back : (c y q : ℕ) → y < c → q < c → distance c (ahead c y q) 0 ≡ distance c q y
+turn-back c y q h g =
+    let r = ahead-way c y q h g in
+    let e = ahead c y q in
+    distance-symmetric c e 0
+    ∙ distance-way (c - e) (omega arith) (r .less) (omega (arith, r .less)) (straight (omega arith))
+    ∙ sym (distance-way (c - e) h g (omega (arith, r .less)) (r .way))
+    ∙ distance-symmetric c y q
+
+pub table-part : {c : ℕ} {table : List ℕ} → Table c table → (y q : ℕ) → y < c → q < c → getD table (c - y + q) 0 ≡ distance c q y
+unfolding ahead
+table-part {c} {table} t y q h g =
+    t .holds (c - y + q) (omega arith) ∙ ap (λ (x : ℕ). distance c (x % c) 0) (add-comm (c - y) q) ∙ turn-back c y q h g
+
+-- a loop has filled the table up to k
+pub record Filling (c : ℕ) (table : List ℕ) (k : ℕ) : Type 0 where
+  pub len : length table ≡ 8192
+  pub holds : (l : ℕ) → l < k → getD table l 0 ≡ distance c (l % c) 0
+  pub small : (l : ℕ) → getD table l 0 < 2 ^ 16
+
+zero-at : (n k : ℕ) → _≡_ {A = ℕ} (getD (replicate n 0) k 0) 0
+zero-at zero k = refl
+zero-at (suc n) zero = refl
+zero-at (suc n) (suc k) = zero-at n k
+
+pub filling-none : {c : ℕ} → Filling c (replicate 8192 0) 0
+filling-none = record { len = length-replicate {A = ℕ} 8192 0; holds = λ l h. absurd (omega arith); small = λ l. omega (arith, zero-at 8192 l) }
+
+pub filling-turn : {c : ℕ} {table : List ℕ} {k v : ℕ} → Filling c table k → k < 8192 → 0 < c → c ≤ 4096 → v ≡ distance c (k % c) 0
+    → Filling c (set table k v) (k + 1)
+filling-turn {c} {table} {k} {v} f h some g e = record {
+  len = length-set table k v ∙ f .len;
+  holds = λ l i. new l i (ℕ-discrete l k);
+  small = λ l. all l (ℕ-discrete l k);
+}
+  where
+    new : (l : ℕ) → l < k + 1 → Dec (l ≡ k) → getD (set table k v) l 0 ≡ distance c (l % c) 0
+    new l i (yes d) = rw d (getD-set-same table k v 0 (omega (arith, f .len)) ∙ e)
+    new l i (no d) = getD-set-other table k l v 0 d ∙ f .holds l (omega arith)
+
+    v-small : v < 2 ^ 16
+    v-small = omega (arith, e, distance-half c (k % c) 0 (mod-lt k some) some)
+
+    all : (l : ℕ) → Dec (l ≡ k) → getD (set table k v) l 0 < 2 ^ 16
+    all l (yes d) = rw d (omega (arith, v-small, getD-set-same table k v 0 (omega (arith, f .len))))
+    all l (no d) = omega (arith, getD-set-other table k l v 0 d, f .small l)
+
+pub filling-all : {c : ℕ} {table : List ℕ} {k : ℕ} → Filling c table k → 2 * c ≤ k → Table c table
+filling-all f h = record { len = f .len; holds = λ l i. f .holds l (omega arith); small = f .small }

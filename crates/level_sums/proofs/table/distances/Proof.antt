@@ -1,0 +1,56 @@
+-- `level_sums::table::distances` meets its contract. Assumes nothing.
+use Prim.Native.Nat.{_-_, _*_, _≤_}
+use native.Mathlib.Omega.{arith}
+use borrow.Author.Needs.{needs}
+use Rattle.level_sums.proofs.TableLaws.{Filling, filling-none, filling-turn, filling-all}
+use Rattle.level_sums.proofs.table.distances.Statement.{statement}
+use Rattle.level_sums.proofs.table.distances.Tie as tie
+
+abbrev Inv-loop : tie.InvT-loop
+Inv-loop cycle table₀ k₀ table k = (k ≤ 2 * cycle) × Filling cycle table k
+
+abbrev μ-loop : tie.MeasureT-loop
+μ-loop cycle table₀ k₀ table k = 2 * cycle - k
+
+loop-holds : tie.Need-loop-holds Inv-loop μ-loop
+loop-holds c = (omega arith, filling-none)
+
+mul-loop : tie.Need-mul-loop Inv-loop μ-loop
+mul-loop c = search needs
+
+distance-at-requires : tie.Need-distance-at-requires Inv-loop μ-loop
+distance-at-requires c κs = search needs
+
+mul-table : tie.Need-mul-table Inv-loop μ-loop
+mul-table c = search needs
+
+array-write-table : tie.Need-array-write-table Inv-loop μ-loop
+array-write-table c = search needs
+
+add-k : tie.Need-add-k Inv-loop μ-loop
+add-k c = search needs
+
+loop-less : tie.Need-loop-less Inv-loop μ-loop
+loop-less c = search needs
+
+loop-again : tie.Need-loop-again Inv-loop μ-loop
+loop-again c = (omega arith, filling-turn (c .before .before .loop .inv .1) (omega arith) (omega arith) (omega arith) (c .distance-at .ensures))
+
+returns : tie.Need-returns Inv-loop μ-loop
+returns c = filling-all (c .before .loop .inv .1) (omega arith)
+
+pub distances-spec : {M : Type 1} → statement M
+distances-spec =
+    tie.close
+    (tie.spec
+    Inv-loop
+    μ-loop
+    loop-holds
+    mul-loop
+    distance-at-requires
+    mul-table
+    array-write-table
+    add-k
+    loop-less
+    loop-again
+    returns)

@@ -1,0 +1,37 @@
+// The table of distances: by it, the distances of all ticks to a reading are contiguous.
+use cycle::apart;
+ghost use mathlib.Core.Path.{_≡_};
+ghost use Prim.Native.Nat.{_*_, _%_, _≤_, _<_};
+ghost use lib.ListN.{length, getD};
+ghost use Rattle.cycle.specs.Distance.{distance};
+ghost use Rattle.level_sums.specs.Table.{Table};
+
+// k modulo the cycle, for k below two cycles.
+fn fold(cycle: usize, k: usize) -> usize
+    requires { ⌜ k < 2 * cycle ⌝ }
+    ensures { λ r. ⌜ r ≡ k % cycle ⌝ }
+{
+    if k < cycle { k } else { k - cycle }
+}
+
+// The distance of tick k modulo the cycle to tick 0.
+fn distance_at(cycle: usize, k: usize) -> u32
+    requires { ⌜ (cycle ≤ 4096) × (k < 2 * cycle) ⌝ }
+    ensures { λ r. ⌜ r ≡ distance cycle (k % cycle) 0 ⌝ }
+{
+    let tick = fold(cycle, k);
+    apart(cycle as u16, tick as u16, 0) as u32
+}
+
+pub fn distances(cycle: usize) -> [u32; 8192]
+    requires { ⌜ cycle ≤ 4096 ⌝ }
+    ensures { λ r. ⌜ Table cycle r ⌝ }
+{
+    let mut table = [0u32; 8192];
+    let mut k = 0;
+    while k < 2 * cycle {
+        table[k] = distance_at(cycle, k);
+        k += 1;
+    }
+    table
+}
