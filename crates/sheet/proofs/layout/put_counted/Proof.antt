@@ -1,0 +1,20 @@
+-- `sheet::layout::put_counted` meets its contract. Assumes nothing.
+use borrow.Author.Needs.{needs}
+use Rattle.text.proofs.TextLaws.{laid-more}
+use Rattle.sheet.proofs.layout.put_counted.Statement.{statement}
+use Rattle.sheet.proofs.layout.put_counted.Tie as tie
+
+put-bytes-requires : tie.Need-put-bytes-requires
+put-bytes-requires c κs = search needs
+
+put-decimal-requires : tie.Need-put-decimal-requires
+put-decimal-requires c κs = search needs
+
+same-length : tie.Need-same-length
+same-length c = search needs
+
+returns : tie.Need-returns
+returns c = laid-more (c .before .before .before .before .before .before .before .before .before .before .pre) (c .before .before .before .before .before .before .put-bytes .ensures) (c .before .before .put-decimal .ensures)
+
+pub put-counted-spec : {M : Type 1} → statement M
+put-counted-spec = tie.close (tie.spec put-bytes-requires put-decimal-requires same-length returns)

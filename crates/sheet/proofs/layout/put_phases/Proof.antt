@@ -1,0 +1,74 @@
+use Prim.Native.Nat.{ℕ, _-_, _≤_}
+use mathlib.Core.Path.{subst}
+use mathlib.Core.List.{List}
+use native.Mathlib.Omega.{arith}
+use borrow.Author.Needs.{needs}
+use lib.Seq.{take-all}
+use lib.ListN.{length, take}
+use Rattle.text.proofs.TextLaws.{laid-none, laid-more, laid-room, laid-length}
+use Rattle.text.specs.Text.{Laid}
+use Rattle.sheet.proofs.WordLaws.{words-more}
+use Rattle.sheet.specs.Sheet.{phaseWords}
+use Rattle.sheet.proofs.layout.put_phases.Statement.{statement}
+use Rattle.sheet.proofs.layout.put_phases.Tie as tie
+
+-- `sheet::layout::put_phases` meets its contract. Assumes nothing.
+
+abbrev Inv-loop : tie.InvT-loop
+Inv-loop text₀ at row place₀ i₀ text place i = (i ≤ length row) × Laid text₀ at (phaseWords (take i row)) place text
+
+abbrev μ-loop : tie.MeasureT-loop
+μ-loop text₀ at row place₀ i₀ text place i = length row - i
+
+loop-holds : tie.Need-loop-holds Inv-loop μ-loop
+unfolding phaseWords
+loop-holds c = (omega arith, laid-none (c .before .before .pre))
+
+mul-put-phase : tie.Need-mul-put-phase Inv-loop μ-loop
+mul-put-phase c = search needs
+
+shared-slice-read-put-phase : tie.Need-shared-slice-read-put-phase Inv-loop μ-loop
+shared-slice-read-put-phase c = search needs
+
+put-phase-requires : tie.Need-put-phase-requires Inv-loop μ-loop
+put-phase-requires c κs = laid-room (c .before .before .before .before .before .before .pre) (c .before .before .before .loop .inv .1)
+
+add-i : tie.Need-add-i Inv-loop μ-loop
+add-i c = search needs
+
+loop-less : tie.Need-loop-less Inv-loop μ-loop
+loop-less c = search needs
+
+loop-again : tie.Need-loop-again Inv-loop μ-loop
+loop-again c =
+    let a = c .before .before .before .before .before .before .before .before .before .args in
+    let l = c .before .before .before .before .before .before .loop in (
+      omega arith,
+      subst (λ (w : List ℕ). Laid (a .text .now) (a .at) w (c .before .before .put-phase .result) (c .before .before .put-phase .last .0))
+          (words-more (a .row .now) (l .i) (c .before .before .before .before .before .loop-test .taken)) (laid-more (c .before .before .before .before .before .before .before .before .before .pre) (l .inv .1) (c .before .before .put-phase .ensures)),
+    )
+
+same-length : tie.Need-same-length Inv-loop μ-loop
+same-length c = laid-length (c .before .before .before .before .pre) (c .before .loop .inv .1)
+
+returns : tie.Need-returns Inv-loop μ-loop
+returns c =
+    let a = c .before .before .before .before .args in
+    let l = c .before .loop in
+    rw (take-all (l .i) (a .row .now) (omega arith)) at (l .inv .1)
+
+pub put-phases-spec : {M : Type 1} → statement M
+put-phases-spec =
+    tie.close
+    (tie.spec
+    Inv-loop
+    μ-loop
+    loop-holds
+    mul-put-phase
+    shared-slice-read-put-phase
+    put-phase-requires
+    add-i
+    loop-less
+    loop-again
+    same-length
+    returns)

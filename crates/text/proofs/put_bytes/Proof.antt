@@ -1,0 +1,65 @@
+-- `text::put_bytes` meets its contract. Assumes nothing.
+use Prim.Native.Nat.{_+_, _-_, _≤_}
+use mathlib.Core.Path.{_≡_}
+use mathlib.Core.List.{[], _∷_, _++_}
+use native.Mathlib.Omega.{arith}
+use native.Mathlib.Numerals.{add-one}
+use borrow.Author.Needs.{needs}
+use lib.ListN.{length, take, getD}
+use lib.Seq.{take-suc, take-all}
+use Rattle.text.specs.Text.{Laid}
+use Rattle.text.proofs.TextLaws.{laid-none, laid-more, laid-room, laid-length}
+use Rattle.text.proofs.put_bytes.Statement.{statement}
+use Rattle.text.proofs.put_bytes.Tie as tie
+
+abbrev Inv-loop : tie.InvT-loop
+Inv-loop text₀ at bytes place₀ i₀ text place i = (i ≤ length bytes) × Laid text₀ at (take i bytes) place text
+
+abbrev μ-loop : tie.MeasureT-loop
+μ-loop text₀ at bytes place₀ i₀ text place i = length bytes - i
+
+loop-holds : tie.Need-loop-holds Inv-loop μ-loop
+loop-holds c = (omega arith, laid-none (c .before .before .pre))
+
+shared-slice-read-put-byte : tie.Need-shared-slice-read-put-byte Inv-loop μ-loop
+shared-slice-read-put-byte c = search needs
+
+put-byte-requires : tie.Need-put-byte-requires Inv-loop μ-loop
+put-byte-requires c κs = laid-room (c .before .before .before .before .before .before .pre) (c .before .before .before .loop .inv .1)
+
+add-i : tie.Need-add-i Inv-loop μ-loop
+add-i c = search needs
+
+loop-less : tie.Need-loop-less Inv-loop μ-loop
+loop-less c = search needs
+
+loop-again : tie.Need-loop-again Inv-loop μ-loop
+loop-again c =
+    let l = c .before .before .before .before .before .before .loop in
+    let s = c .before .before .before .before .before .before .before .before .before in
+    let bytes = s .args .bytes .now in
+    let one : take (l .i + 1) bytes ≡ take (l .i) bytes ++ (getD bytes (l .i) 0 ∷ []) = rw (add-one (l .i)) (take-suc bytes (l .i) 0 (omega arith)) in
+    (omega arith, rw one (laid-more (s .pre) (l .inv .1) (c .before .before .put-byte .ensures)))
+
+same-length : tie.Need-same-length Inv-loop μ-loop
+same-length c = laid-length (c .before .before .before .before .pre) (c .before .loop .inv .1)
+
+returns : tie.Need-returns Inv-loop μ-loop
+returns c =
+    let l = c .before .loop in
+    rw (take-all (l .i) (c .before .before .before .before .args .bytes .now) (omega arith)) at (l .inv .1)
+
+pub put-bytes-spec : {M : Type 1} → statement M
+put-bytes-spec =
+    tie.close
+    (tie.spec
+    Inv-loop
+    μ-loop
+    loop-holds
+    shared-slice-read-put-byte
+    put-byte-requires
+    add-i
+    loop-less
+    loop-again
+    same-length
+    returns)
