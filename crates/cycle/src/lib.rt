@@ -7,7 +7,7 @@ use refusal::Refusal;
 use refusal::Verdict;
 use ticks::ahead_of;
 pub use ticks::apart;
-pub use ticks::drift_of;
+use ticks::drift_of;
 use ticks::signed_step;
 pub use ticks::size;
 pub use verdicts::cycle_verdict;

@@ -75,6 +75,7 @@ module _ {limit : ℕ} {s : Shape} {image : List ℕ} (ready : Ready limit s ima
   output-phases output room i h = rw (output-row output room i h) (record {
     cycle-some = sizes ready small .cycle-some;
     cycle-fits = omega (arith, sizes ready small .cycle-fits);
+    some = omega (arith, length-tabulate (phaseAt s image) (i * s .columns) (s .columns), sizes ready small .columns-some);
     short = omega (arith, length-tabulate (phaseAt s image) (i * s .columns) (s .columns), sizes ready small .columns-fit);
     good = good-all (isReading (s .cycle)) _ (each-tabulate (λ y. isReading (s .cycle) y ≡ true) (phaseAt s image) (i * s .columns) (s .columns) tick);
   })

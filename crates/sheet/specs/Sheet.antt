@@ -63,6 +63,7 @@ rowOf s phases i = take (s .columns) (drop (i * s .columns) phases)
 pub record Phases (c : ℕ) (row : List ℕ) : Type 0 where
   pub cycle-some : 0 < c
   pub cycle-fits : c ≤ longestCycle
+  pub some : 0 < length row
   pub short : length row ≤ mostColumns
   pub good : length row ≤ firstBad (isReading c) row
 

@@ -1,15 +1,17 @@
 // The lines of the sheet, laid into the text memory one after the other.
-use cycle::drift_of;
+use cycle::DriftAnswer;
 use refusal::Refusal;
 use shape::Shape;
 use text::put_byte;
 use text::put_bytes;
 use text::put_decimal;
 use text::put_signed;
+ghost use mathlib.Core.Path.{_≡_};
 ghost use Prim.Native.Nat.{ℕ, _≤_, _<_};
 ghost use lib.ListN.{length};
 ghost use Rattle.refusal.specs.Limits.{mostRows, mostColumns};
 ghost use Rattle.refusal.specs.Table.{numberOf, placeOf};
+ghost use Rattle.cycle.specs.Step.{drift};
 ghost use Rattle.shape.specs.Rules.{area};
 ghost use Rattle.text.specs.Text.{Laid};
 ghost use Rattle.sheet.specs.Words.{space};
@@ -66,6 +68,17 @@ fn put_phases(text: &mut [u8], at: usize, row: &[u16]) -> usize
     place
 }
 
+// The drift of a row of phases.
+fn row_drift(cycle: u32, row: &[u16]) -> i32
+    requires { ⌜ Phases cycle (now row) ⌝ }
+    ensures { λ r. ⌜ r ≡ drift cycle (now (row .entry)) ⌝ }
+{
+    match cycle::drift(cycle, row) {
+        DriftAnswer::Drift(d) => d,
+        DriftAnswer::Refused(_) => 0,
+    }
+}
+
 // The line of a row.
 fn put_row(text: &mut [u8], at: usize, cycle: u32, i: usize, row: &[u16]) -> usize
     requires { ⌜ (at ≤ length (now text)) × Phases cycle (now row) ⌝ }
@@ -75,7 +88,7 @@ fn put_row(text: &mut [u8], at: usize, cycle: u32, i: usize, row: &[u16]) -> usi
     let phases = put_byte(text, name, 58);
     let word = put_phases(text, phases, row);
     let number = put_bytes(text, word, b" drift ");
-    let end = put_signed(text, number, drift_of(cycle, row));
+    let end = put_signed(text, number, row_drift(cycle, row));
     put_byte(text, end, 10)
 }
 

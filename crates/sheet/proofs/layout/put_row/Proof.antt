@@ -26,8 +26,8 @@ slice-aggregate-put-bytes c = search needs
 put-bytes-requires : tie.Need-put-bytes-requires
 put-bytes-requires c κs = search needs
 
-drift-of-requires : tie.Need-drift-of-requires
-drift-of-requires c κs = search needs
+row-drift-requires : tie.Need-row-drift-requires
+row-drift-requires c κs = search needs
 
 put-signed-requires : tie.Need-put-signed-requires
 put-signed-requires c κs = search needs
@@ -47,7 +47,7 @@ returns c =
     let e = c .before .before .before .before .before .before .before .before .before .before .before .put-bytes .ensures in
     let f = c .before .before .before .before .before .before .put-signed .ensures in
     let g = c .before .before .put-byte2 .ensures in
-    let n = toZ-ofZ {w = w32} (record { sfits = c .before .before .before .before .before .before .before .drift-of .ok }) ∙ c .before .before .before .before .before .before .before .drift-of .ensures in
+    let n = toZ-ofZ {w = w32} (record { sfits = c .before .before .before .before .before .before .before .row-drift .ok }) ∙ c .before .before .before .before .before .before .before .row-drift .ensures in
     let ra = laid-room (s .pre .0) a in
     let rb = laid-room ra b in
     let rd = laid-room rb d in
@@ -64,7 +64,7 @@ put-row-spec =
     put-phases-requires
     slice-aggregate-put-bytes
     put-bytes-requires
-    drift-of-requires
+    row-drift-requires
     put-signed-requires
     put-byte-requires-2
     same-length

@@ -1,0 +1,31 @@
+-- `sheet::layout::row_drift` meets its contract. Assumes nothing.
+use mathlib.Core.Path.{_∙_}
+use borrow.Author.Needs.{needs}
+use mir.Facts.{toZ-ofZ}
+use mir.Syntax.{w32}
+use Rattle.sheet.proofs.Drifts.{drift-fits, told-drift, never-refused}
+use Rattle.sheet.proofs.layout.row_drift.Statement.{statement}
+use Rattle.sheet.proofs.layout.row_drift.Tie as tie
+
+drift-requires : tie.Need-drift-requires
+drift-requires c κs = search needs
+
+enum-known-d : tie.Need-enum-known-d
+enum-known-d c = search needs
+
+enum-told : tie.Need-enum-told
+enum-told c = search needs
+
+returns : tie.Need-returns
+returns c =
+    let a = c .before .before .before .before .before .args in
+    let e = told-drift (a .cycle) (a .row .now) _ (c .before .before .before .before .before .pre) (c .before .before .before .drift .ensures) (c .before .d .given .1) in
+    toZ-ofZ {w = w32} (record { sfits = rw e (drift-fits (a .cycle) (a .row .now) (c .before .before .before .before .before .pre)) }) ∙ e
+
+returns-2 : tie.Need-returns-2
+returns-2 c =
+    let a = c .before .before .before .before .args in
+    absurd (never-refused (a .cycle) (a .row .now) _ (c .before .before .before .before .pre) (c .before .before .drift .ensures) (c .enum-told .given .1))
+
+pub row-drift-spec : {M : Type 1} → statement M
+row-drift-spec = tie.close (tie.spec drift-requires enum-known-d enum-told returns returns-2)
