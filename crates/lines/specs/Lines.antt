@@ -16,10 +16,7 @@ lineLength = 8704
 abbrev pub Below : ℕ → List ℕ → Type 0
 Below c line = (k : ℕ) → getD line k 0 < c
 
--- a part of a row, and one that is read backwards from the number before `end`
-abbrev pub copied : List ℕ → ℕ → ℕ → ℕ
-copied row start q = getD row (start + q) 0
-
+-- a part of a row, read backwards from the number before `end`
 abbrev pub backwards : List ℕ → ℕ → ℕ → ℕ
 backwards row end q = getD row (end - 1 - q) 0
 

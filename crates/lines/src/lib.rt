@@ -13,8 +13,8 @@ ghost use lib.ListN.{length, getD};
 ghost use Rattle.cycle.specs.Step.{ahead};
 ghost use Rattle.median.specs.Choice.{rank};
 ghost use Rattle.memory.specs.Memory.{Changed};
-ghost use Rattle.memory.specs.Parts.{added};
-ghost use Rattle.lines.specs.Lines.{Below, copied, backwards, between, betweenTwo, shifted, lower, nearest, nearer, ranked, tickOf, told, unweighed, farthest};
+ghost use Rattle.memory.specs.Parts.{added, copied};
+ghost use Rattle.lines.specs.Lines.{Below, backwards, between, betweenTwo, shifted, lower, nearest, nearer, ranked, tickOf, told, unweighed, farthest};
 
 // The numbers in a line: a longest row with its padding, and one mask more.
 pub const LINE: usize = 8704;

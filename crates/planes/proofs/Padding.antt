@@ -12,7 +12,8 @@ use Rattle.memory.specs.Memory.{Changed}
 use Rattle.window.specs.Mirror.{mirror}
 use Rattle.window.specs.Window.{padded}
 use Rattle.window.proofs.Mirror.{mirror-low, mirror-middle, mirror-high}
-use Rattle.lines.specs.Lines.{copied, backwards}
+use Rattle.lines.specs.Lines.{backwards}
+use Rattle.memory.specs.Parts.{copied}
 use Rattle.planes.specs.Planes.{paddedLength, extended, Blank, Line}
 use Rattle.planes.proofs.LineLaws.{extended-inside, extended-past}
 

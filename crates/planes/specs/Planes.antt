@@ -58,7 +58,7 @@ abbrev pub lineWindow : Shape → List ℕ → ℕ → List ℕ → ℕ → ℕ 
 lineWindow s image i own l j =
     difference (sumAt (s .cycle) (getD own (l + j) 0) (block (extended s image) (s .«mask_columns») i j (s .«mask_rows»))) 0
 
--- the numbers of a line's planes, and of the first k of them
+-- the numbers of a line's planes
 abbrev pub planes : Shape → ℕ
 planes s = s .«mask_columns» * s .columns
 

@@ -5,7 +5,7 @@ use native.Mathlib.Omega.{arith}
 use borrow.Author.Needs.{needs}
 use Rattle.memory.proofs.Memory.{changed-start, changed-turn}
 use Rattle.memory.specs.Memory.{Changed}
-use Rattle.lines.specs.Lines.{copied}
+use Rattle.memory.specs.Parts.{copied}
 use Rattle.lines.proofs.copy_line.Statement.{statement}
 use Rattle.lines.proofs.copy_line.Tie as tie
 
