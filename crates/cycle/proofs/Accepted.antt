@@ -3,7 +3,7 @@ use Prim.Native.Nat.{ℕ, _≤_, _<_}
 use mathlib.Core.Path.{_≡_}
 use mathlib.Core.List.{List}
 use native.Mathlib.Omega.{arith}
-use borrow.Author.Tests.{ltb-true, ltb-false, eqb-false, not-false}
+use borrow.Author.Tests.{ltb-true, ltb-false, le-ltb, eqb-false, ne-eqb, not-false}
 use lib.ListN.{length, getD}
 use Rattle.lists.specs.First.{firstBad}
 use Rattle.lists.proofs.First.{before-first}
@@ -31,18 +31,30 @@ pair-clear c a b clear =
 pub record Row (c : ℕ) (row : List ℕ) : Type 0 where
   pub cycle-some : 0 < c
   pub cycle-fits : c ≤ longestCycle
+  pub some : 0 < length row
   pub short : length row ≤ mostColumns
   pub good : length row ≤ firstBad (isReading c) row
 
 pub row-clear : (c : ℕ) (row : List ℕ) → Clear (rowRules c row) → Row c row
 row-clear c row clear =
-    let some : (c ≡ 0 → ⊥) = eqb-false c 0 (clear .0) in
+    let cycle : (c ≡ 0 → ⊥) = eqb-false c 0 (clear .0) in
+    let some : (length row ≡ 0 → ⊥) = eqb-false (length row) 0 (clear .1 .1 .0) in
     record {
       cycle-some = omega arith;
       cycle-fits = ltb-false longestCycle c (clear .1 .0);
+      some = omega arith;
       short = ltb-false mostColumns (length row) (clear .1 .1 .1 .0);
       good = ltb-false (firstBad (isReading c) row) (length row) (clear .1 .1 .1 .1 .0);
     }
+
+pub clear-row : (c : ℕ) (row : List ℕ) → Row c row → Clear (rowRules c row)
+clear-row c row r = (
+  ne-eqb c 0 (λ e. omega (arith, r .cycle-some)),
+  (
+    le-ltb longestCycle c (r .cycle-fits),
+    (ne-eqb (length row) 0 (λ e. omega (arith, r .some)), (le-ltb mostColumns (length row) (r .short), (le-ltb _ (length row) (r .good), tt))),
+  ),
+)
 
 -- where no reading is bad, each is a tick
 pub reading-below : (c : ℕ) (readings : List ℕ) (k : ℕ) → length readings ≤ firstBad (isReading c) readings → k < length readings → getD readings k 0 < c

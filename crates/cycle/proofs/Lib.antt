@@ -4,3 +4,4 @@ pub mod DistanceLaws
 pub mod StepLaws
 pub mod DriftLaws
 pub mod SignedLaws
+pub mod Sizes

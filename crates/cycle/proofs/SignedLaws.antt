@@ -12,16 +12,22 @@ use mir.Val.{Fits, SFits, toZ, ofZ}
 use mir.Syntax.{w32}
 use mir.Facts.{toZ-pos, toZ-ofZ}
 
-mag-subℕ : (a b : ℕ) → mag (subℕ a b) ≤ a + b
-mag-subℕ a b = go (decLt a b)
+-- a difference is no larger than its sides together
+pub sub-size : (a b : ℕ) → natAbs (subℕ a b) ≤ a + b
+sub-size a b = go (decLt a b)
   where
-    go : Dec (a < b) → mag (subℕ a b) ≤ a + b
+    go : Dec (a < b) → natAbs (subℕ a b) ≤ a + b
     go (yes h) = rw (lt-ltb a b h) (omega arith)
     go (no h) = rw (le-ltb a b (omega arith)) (omega arith)
 
+-- of a number below 0 a computer takes one less than the size
+pub mag-size : (z : ℤ) → mag z ≤ natAbs z
+mag-size (pos n) = omega arith
+mag-size (negsuc n) = omega arith
+
 mag-sub : (a b : ℕ) → mag (pos a -ℤ pos b) ≤ a + b
 mag-sub a zero = omega arith
-mag-sub a (suc b) = mag-subℕ a (suc b)
+mag-sub a (suc b) = omega (arith, mag-size (subℕ a (suc b)), sub-size a (suc b))
 
 pub sub-fits : (a b : ℕ) → a < 2 ^ 30 → b < 2 ^ 30 → SFits w32 (toZ w32 a -ℤ toZ w32 b)
 sub-fits a b h g =

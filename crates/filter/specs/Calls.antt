@@ -41,12 +41,19 @@ abbrev pub filterTold : FilterAnswer → Outcome Unit
 filterTold Filtered = accepted tt
 filterTold (Refused r) = refusal r
 
--- A call of an engine: the answer, and all of the output and of the work memory at its end. If it is accepted, the rows of the range
--- hold the chosen phases and the needed work numbers are zero; everything else, and everything after a refusal, is as it was.
+-- the output with rows first to end - 1 filtered: "row i's phases at i·N + j", the chosen ones; nothing else in it changes
+abbrev pub filteredRows : Shape → ℕ → ℕ → List ℕ → List ℕ → List ℕ
+filteredRows s first end image output = written (phaseAt s image) (first * s .columns) (end * s .columns) output
+
+-- the work memory with the needed numbers zero, the others as they were
+abbrev pub zeroedWork : Engine → Shape → List ℕ → List ℕ
+zeroedWork e s work = written (λ k. 0) 0 (need e s) work
+
+-- A call of an engine: the answer, and all of the output and of the work memory at its end; a refusal changes nothing.
 pub record Call (e : Engine) (s : Shape) (first end : ℕ) (image output₀ work₀ : List ℕ) (r : FilterAnswer) (output₁ work₁ : List ℕ) : Type 0 where
   pub answer : filterTold r ≡ filterCall e s first end image (length output₀) (length work₀)
-  pub output : output₁ ≡ leaves (filterTold r) (written (phaseAt s image) (first * s .columns) (end * s .columns) output₀) output₀
-  pub work : work₁ ≡ leaves (filterTold r) (written (λ k. 0) 0 (need e s) work₀) work₀
+  pub output : output₁ ≡ leaves (filterTold r) (filteredRows s first end image output₀) output₀
+  pub work : work₁ ≡ leaves (filterTold r) (zeroedWork e s work₀) work₀
 
 -- "Two outputs have the same rows if their numbers at i·N + j are equal for each row i of the range and each column j."
 abbrev pub SameRows : Shape → ℕ → ℕ → List ℕ → List ℕ → Type 0

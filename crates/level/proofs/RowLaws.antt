@@ -4,10 +4,10 @@ use mathlib.Core.Path.{_≡_, ap, sym, _∙_}
 use mathlib.Core.List.{List}
 use native.Mathlib.Omega.{arith}
 use native.Mathlib.Decide.{ℕ-discrete}
-use native.Mathlib.Nat.{mul-le-mul-right}
 use lib.ListN.{length, getD, set, length-set}
 use lib.Seq.{getD-set-same, getD-set-other, ext-getD}
 use Rattle.lists.specs.Tabulate.{tabulate}
+use Rattle.lists.proofs.Parts.{part-end}
 use Rattle.lists.proofs.Tabulate.{length-tabulate, getD-tabulate}
 use Rattle.shape.specs.declared.Shape.{Shape}
 use Rattle.memory.specs.Memory.{Holds, Changed, Outside, ChangedBoth}
@@ -38,10 +38,6 @@ module _ {s : Shape} {image : List ℕ} {i : ℕ} where
       let at : l < s .columns = omega (arith, r .len) in
       r .phases l (omega (arith, r .len)) ∙ sym (phase-at s image i l at) ∙ sym (getD-tabulate (phaseAt s image) 0 (i * s .columns) (s .columns) l at))
 
--- columns do not overlap
-apart : (c l j : ℕ) → l < j → l * c + c ≤ j * c
-apart c l j h = omega (arith, mul-le-mul-right c h)
-
 module _ (s : Shape) (image : List ℕ) where
   -- one column more holds the sums of row i
   pub sums-more : {w w′ : List ℕ} {place : ℕ} (i j : ℕ) → RowSums s image i w 0 j → Changed w w′ place (s .cycle) (windowSum s image i j) → place ≡ j * s .cycle
@@ -50,7 +46,7 @@ module _ (s : Shape) (image : List ℕ) where
     where
       go : Dec (l ≡ j) → getD w′ (l * s .cycle + q) 0 ≡ windowSum s image i l q
       go (yes d) = rw (d, ← e) (x .holds q h)
-      go (no d) = x .before (l * s .cycle + q) (omega (arith, apart (s .cycle) l j (omega arith))) ∙ r l (omega arith) (omega arith) q h
+      go (no d) = x .before (l * s .cycle + q) (omega (arith, part-end l j (s .cycle) (omega arith))) ∙ r l (omega arith) (omega arith) q h
 
   -- column j goes over from row i to the next
   module _ {w w′ : List ℕ} {place change : ℕ} {z : ℕ → ℕ} (i j : ℕ) (x : ChangedBoth w w′ place change (s .cycle) (windowSum s image (i + 1) j) z)
@@ -60,11 +56,11 @@ module _ (s : Shape) (image : List ℕ) where
       where
         go : Dec (l ≡ j) → getD w′ (l * s .cycle + q) 0 ≡ windowSum s image (i + 1) l q
         go (yes f) = rw (f, ← e) (x .first q g)
-        go (no f) = x .before (l * s .cycle + q) (omega (arith, apart (s .cycle) l j (omega arith))) ∙ r l (omega arith) (omega arith) q g
+        go (no f) = x .before (l * s .cycle + q) (omega (arith, part-end l j (s .cycle) (omega arith))) ∙ r l (omega arith) (omega arith) q g
 
     pub old-less : RowSums s image i w j (s .columns) → RowSums s image i w′ (j + 1) (s .columns)
     old-less r l a b q g =
-        x .between (l * s .cycle + q) (omega (arith, apart (s .cycle) j l (omega arith))) (omega (arith, apart (s .cycle) l (s .columns) b))
+        x .between (l * s .cycle + q) (omega (arith, part-end j l (s .cycle) (omega arith))) (omega (arith, part-end l (s .columns) (s .cycle) b))
         ∙ r l (omega arith) b q g
 
   -- a column or the differences changed: nothing past the need did
@@ -83,10 +79,6 @@ given-kept g e = record { ready = g .ready; room = omega (arith, g .room) }
 -- a part at another name of its place
 pub holds-at : (w : List ℕ) (n : ℕ) (f : ℕ → ℕ) {a b : ℕ} → a ≡ b → Holds w b n f → Holds w a n f
 holds-at w n f e h q i = ap (λ (x : ℕ). getD w (x + q) 0) e ∙ h q i
-
--- a row lies within the image
-pub row-room : (m n i : ℕ) → i < m → i * n + n ≤ m * n
-row-room m n i h = omega (arith, mul-le-mul-right n h)
 
 pub next-place : (i n : ℕ) → (i + 1) * n ≡ i * n + n
 next-place i n = omega arith

@@ -3,8 +3,9 @@ use Prim.Native.Nat.{ℕ, _+_, _-_, _*_, _^_, _≤_, _<_}
 use mathlib.Core.Path.{_≡_, ap, _∙_}
 use mathlib.Core.List.{List}
 use native.Mathlib.Omega.{arith}
-use native.Mathlib.Nat.{mul-le-mul, mul-le-mul-right}
+use native.Mathlib.Nat.{mul-le-mul}
 use lib.ListN.{length, getD}
+use Rattle.lists.proofs.Parts.{part-end}
 use Rattle.refusal.specs.Limits.{levelCycle, mostColumns}
 use Rattle.cycle.specs.Distance.{distance}
 use Rattle.shape.specs.Rules.{reach}
@@ -24,7 +25,7 @@ module _ {s : Shape} {image : List ℕ} {room : ℕ} (given : Given s image room
 
   -- a column's numbers lie within the need, and the need within the memory
   pub column-room : (j : ℕ) → j < s .columns → j * s .cycle + s .cycle ≤ s .columns * s .cycle
-  column-room j h = omega (arith, mul-le-mul-right (s .cycle) h)
+  column-room j h = part-end j (s .columns) (s .cycle) h
 
   pub need-fits : s .columns * s .cycle ≤ 33554432
   need-fits = mul-le-mul {n₁ = s .columns} {m₁ = s .cycle} {n₂ = mostColumns} {m₂ = levelCycle} (accepted .columns-fit) (accepted .cycle-fits)

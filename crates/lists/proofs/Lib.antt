@@ -7,3 +7,4 @@ pub mod Holds
 pub mod First
 pub mod Least
 pub mod Difference
+pub mod Parts

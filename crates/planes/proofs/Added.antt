@@ -7,6 +7,7 @@ use native.Mathlib.Decide.{decLt, ℕ-discrete}
 use native.Mathlib.Nat.{mul-le-mul-right, zero-add, mod-eq-of-lt}
 use lib.ListN.{length, getD}
 use Rattle.lists.proofs.Difference.{adjusted-added}
+use Rattle.lists.proofs.Parts.{part-end}
 use Rattle.shape.specs.declared.Shape.{Shape}
 use Rattle.memory.specs.Memory.{Holds, Changed, Outside}
 use Rattle.memory.specs.Parts.{zeros, added}
@@ -18,10 +19,6 @@ pub record Added (s : Shape) (w₀ w : List ℕ) (base : ℕ) (F : ℕ → ℕ �
   pub taken : (l : ℕ) → lo ≤ l → l < hi → Plane s w base l (gained s w₀ base l (F l))
   pub before : (k : ℕ) → k < base + lo * s .columns → getD w k 0 ≡ getD w₀ k 0
   pub after : (k : ℕ) → base + hi * s .columns ≤ k → getD w k 0 ≡ getD w₀ k 0
-
--- planes do not overlap
-over : (n l m : ℕ) → l < m → l * n + n ≤ m * n
-over n l m h = omega (arith, mul-le-mul-right n h)
 
 module _ {s : Shape} {base : ℕ} {F : ℕ → ℕ → ℕ} where
   pub added-none : {w : List ℕ} {l : ℕ} → Added s w w base F l l
@@ -43,7 +40,7 @@ module _ {s : Shape} {base : ℕ} {F : ℕ → ℕ → ℕ} where
           ∙ sym (adjusted-added (getD w (place + j) 0) (getD z (l + j) 0) _ refl)
           ∙ ap₂ (λ (p q : ℕ). (p + q) % 2 ^ 32) (x .after (place + j) (omega arith) ∙ ap (λ (k : ℕ). getD w₀ (k + j) 0) e) (hold j (omega arith)))
       at m h g (no d) j i =
-          y .before (base + m * s .columns + j) (omega (arith, over (s .columns) m l (omega arith))) ∙ x .taken m h (omega arith) j i
+          y .before (base + m * s .columns + j) (omega (arith, part-end m l (s .columns) (omega arith))) ∙ x .taken m h (omega arith) j i
 
   -- some planes, and then the rest
   pub added-join : {u v w : List ℕ} {lo mid hi : ℕ} → lo ≤ mid → mid ≤ hi → Added s u v base F lo mid → Added s v w base F mid hi → Added s u w base F lo hi
@@ -56,7 +53,7 @@ module _ {s : Shape} {base : ℕ} {F : ℕ → ℕ → ℕ} where
     where
       at : (l : ℕ) → lo ≤ l → l < hi → Dec (l < mid) → Plane s w base l (gained s u base l (F l))
       at l h g (yes i) j k =
-          y .before (base + l * s .columns + j) (omega (arith, over (s .columns) l mid i)) ∙ x .taken l h i j k
+          y .before (base + l * s .columns + j) (omega (arith, part-end l mid (s .columns) i)) ∙ x .taken l h i j k
       at l h g (no i) j k =
           y .taken l (omega arith) g j k
           ∙ ap (λ (p : ℕ). (p + F l j) % 2 ^ 32) (x .after (base + l * s .columns + j) (omega (arith, mul-le-mul-right {m = mid} {n = l} (s .columns) (omega arith))))
@@ -80,10 +77,10 @@ module _ {s : Shape} {base : ℕ} {F : ℕ → ℕ → ℕ} where
       holds : (l : ℕ) → l < s .«mask_columns» → Plane s w₂ base l (F l)
       holds l h j i =
           let clear : getD w₁ (base + l * s .columns + j) 0 ≡ 0 =
-          ap (λ (k : ℕ). getD w₁ k 0) (omega arith) ∙ x .holds (l * s .columns + j) (omega (arith, over (s .columns) l (s .«mask_columns») h)) in
+          ap (λ (k : ℕ). getD w₁ k 0) (omega arith) ∙ x .holds (l * s .columns + j) (omega (arith, part-end l (s .«mask_columns») (s .columns) h)) in
           y .taken l (omega arith) h j i ∙ ap (λ (p : ℕ). (p + F l j) % 2 ^ 32) clear ∙ ap (λ (p : ℕ). p % 2 ^ 32) (zero-add (F l j))
           ∙ mod-eq-of-lt (small l j)
 
 -- where planes lie in memory
 pub plane-room : (s : Shape) (base l : ℕ) → l < s .«mask_columns» → base + l * s .columns + s .columns ≤ base + planes s
-plane-room s base l h = omega (arith, over (s .columns) l (s .«mask_columns») h)
+plane-room s base l h = omega (arith, part-end l (s .«mask_columns») (s .columns) h)

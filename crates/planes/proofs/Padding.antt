@@ -4,7 +4,7 @@ use mathlib.Core.Path.{_≡_, ap, sym, _∙_}
 use mathlib.Core.List.{List}
 use native.Mathlib.Omega.{arith}
 use native.Mathlib.Decide.{decLt}
-use native.Mathlib.Nat.{zero-add, mul-le-mul-right}
+use native.Mathlib.Nat.{zero-add}
 use lib.ListN.{getD}
 use Rattle.shape.specs.Rules.{reach}
 use Rattle.shape.specs.declared.Shape.{Shape}
@@ -55,7 +55,3 @@ module _ (s : Shape) (image : List ℕ) (p row : ℕ) where
             ∙ ap (λ (i : ℕ). getD image i 0) (omega arith)
             ∙ at k (h - 1 - k) (omega arith) (mirror-low n h k l)
         low k (no l) = middle k (decLt k (h + n)) (omega arith)
-
--- a row lies within the image
-pub row-inside : (m n i : ℕ) → i < m → i * n + n ≤ m * n
-row-inside m n i g = omega (arith, mul-le-mul-right n g)

@@ -7,7 +7,7 @@ use native.Mathlib.Omega.{arith}
 use lib.ListN.{length, take, drop}
 use lib.Seq.{take-at}
 use Rattle.refusal.specs.Outcome.Outcome.{accepted, refused}
-use Rattle.refusal.proofs.Outcome.{accepted-clear, clear-accepted}
+use Rattle.refusal.proofs.Outcome.{accepted-clear, accepted-value}
 use Rattle.shape.specs.declared.Shape.{Shape}
 use Rattle.shape.specs.Rules.{area}
 use Rattle.record_format.specs.Fields.{Bytes}
@@ -47,8 +47,7 @@ unfolding writeCall
 has-written {s} {readings} {bytes} {n} {bytes′} w =
     let clear = accepted-clear (recordLength s) (writeRules s readings (length bytes)) n (sym (w .answer)) in
     let t = writable s readings (length bytes) clear in
-    let e : accepted n ≡ accepted (recordLength s) = w .answer ∙ clear-accepted (recordLength s) (writeRules s readings (length bytes)) clear in
-    let n-is : n ≡ recordLength s = cc in
+    let n-is = accepted-value (recordLength s) (writeRules s readings (length bytes)) n (sym (w .answer)) in
     let all = w .memory ∙ left-accepted (recordBytes s readings) bytes (sym (w .answer)) in
     record {
       tests = t;
@@ -88,8 +87,7 @@ module _ {b buffer buffer′ : List ℕ} {s : Shape} {bytes : List ℕ} {w : Wri
   writes-back small i four o room =
       let clear = accepted-clear (shapeIn b) (readRules b (length buffer)) s (sym (i .answer)) in
       let t = readable b (length buffer) clear in
-      let e : accepted s ≡ accepted (shapeIn b) = i .answer ∙ clear-accepted (shapeIn b) (readRules b (length buffer)) clear in
-      let s-is : s ≡ shapeIn b = cc in
+      let s-is = accepted-value (shapeIn b) (readRules b (length buffer)) s (sym (i .answer)) in
       let all = i .memory ∙ left-accepted (imageIn b) buffer (sym (i .answer)) in
       let image : take (area s) buffer′ ≡ imageIn b = ap (take (area s)) all ∙ take-at (imageIn b) _ (area s) (length-image b ∙ ap area (sym s-is)) in
       let q = subst (λ (t : Shape). Writes t (take (area s) buffer′) bytes w bytes′) s-is o in

@@ -3,12 +3,12 @@ use Prim.Native.Nat.{ℕ, _+_, _*_, _≤_, _<_}
 use mathlib.Core.Path.{_≡_, refl, ap}
 use mathlib.Core.List.{List, [], _∷_, _++_, append-assoc, append-nil}
 use native.Mathlib.Omega.{arith}
-use native.Mathlib.Nat.{mul-le-mul-right}
 use native.Mathlib.Numerals.{add-one}
 use lib.ListN.{length, take, getD, length-append, length-take, length-drop}
 use lib.Seq.{take-suc}
 use Rattle.lists.specs.Joined.{joined}
 use Rattle.lists.proofs.Joined.{length-joined}
+use Rattle.lists.proofs.Parts.{part-end}
 use Rattle.record_format.specs.Fields.{rowTag, endTag, number, numbers, field}
 use Rattle.shape.specs.declared.Shape.{Shape}
 use Rattle.shape.specs.Rules.{area}
@@ -41,10 +41,6 @@ field-is tag body n e = rw e
 pub length-field : (tag : ℕ) (body : List ℕ) → length (field tag body) ≡ 3 + length body
 unfolding field number
 length-field tag body = omega arith
-
--- the end of part i of m parts of w
-pub part-end : (i m w : ℕ) → i < m → i * w + w ≤ m * w
-part-end i m w h = omega (arith, mul-le-mul-right w h)
 
 -- rows of an image
 module _ (n : ℕ) (readings : List ℕ) where

@@ -43,6 +43,10 @@ module _ {A : Type 0} (v : A) where
       go true d next = apart (sym e ∙ stop r rs d)
       go false d next = (d, next (sym (skip r rs d) ∙ e))
 
+  -- and then the result is the one given
+  pub accepted-value : (rs : List Rule) (w : A) → firstDue rs v ≡ accepted w → w ≡ v
+  accepted-value rs w e = let s : _≡_ {A = Outcome A} (accepted w) (accepted v) = sym e ∙ clear-accepted rs (accepted-clear rs w e) in cc
+
 -- The rule of the list that refuses by number n at place k: it is due, and none before it is.
 pub record Refuses (rs : List Rule) (n k : ℕ) : Type 0 where
   pub before : List Rule

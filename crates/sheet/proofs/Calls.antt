@@ -6,14 +6,14 @@ use native.Mathlib.Omega.{arith}
 use borrow.Author.Tests.{lt-ltb, le-ltb}
 use lib.ListN.{length, take, drop, length-append}
 use lib.Seq.{take-at}
-use Rattle.lists.specs.Tabulate.{written}
 use Rattle.lists.proofs.Written.{length-written}
 use Rattle.refusal.specs.Limits.{longestCycle, mostRows, mostColumns}
 use Rattle.refusal.specs.declared.Refusal.{Refusal}
 use Rattle.refusal.specs.Table.{numberOf, placeOf}
-use Rattle.refusal.specs.Outcome.{Outcome, leaves}
+use Rattle.refusal.specs.Outcome.{Outcome, Clear, leaves}
 use Rattle.refusal.specs.Outcome.Outcome.{accepted, refused}
-use Rattle.refusal.proofs.Outcome.{clear-accepted, accepted-clear}
+use Rattle.refusal.proofs.Outcome.{accepted-value}
+use Rattle.cycle.specs.Calls.{rowRules}
 use Rattle.shape.specs.Rules.{area}
 use Rattle.shape.specs.declared.Shape.{Shape}
 use Rattle.window.specs.Phase.{phaseAt}
@@ -21,7 +21,7 @@ use Rattle.window.specs.Ready.{Ready}
 use Rattle.window.proofs.Window.{sizes}
 use Rattle.filter.specs.declared.FilterAnswer.{FilterAnswer}
 use Rattle.filter.specs.declared.FilterAnswer.the-variants.{Filtered, Refused}
-use Rattle.filter.specs.Calls.{limit, need, filterTold, Call}
+use Rattle.filter.specs.Calls.{limit, need, filterTold, filteredRows, zeroedWork, Call}
 use Rattle.filter.proofs.CallLaws.{Image, call-tested, call-ready, limit-fits}
 use Rattle.record_format.specs.Reading.{shapeIn, imageIn, readRules, readCall}
 use Rattle.record_format.proofs.Readable.{length-image}
@@ -30,7 +30,7 @@ use Rattle.record.specs.declared.ReadAnswer.the-variants.{Read}
 use Rattle.record.proofs.Left.{left-accepted}
 use Rattle.text.specs.Text.{Laid}
 use Rattle.record.specs.declared.ReadAnswer.the-variants as reads
-use Rattle.sheet.specs.Sheet.{mostBytes, engineFor, refusalLine, imageLines, filteredImage, filteredCall, thenAs, sheetCall, sheetText, afterwards, rowOf, Phases, ImageSheet, Sheet}
+use Rattle.sheet.specs.Sheet.{mostBytes, engineFor, refusalLine, imageLines, filteredImage, filteredCall, thenAs, sheetCall, sheetText, afterwards, rowOf, ImageSheet, Sheet}
 use Rattle.sheet.proofs.Rows.{output-lines, output-phases}
 
 -- a call of the engine that was chosen
@@ -40,11 +40,11 @@ module _ {s : Shape} {image output work output₁ work₁ : List ℕ} {r : Filte
   unfolding filteredCall
   told = call .answer
 
-  output-is : output₁ ≡ leaves (filteredCall s image (length output) (length work)) (written (phaseAt s image) (0 * s .columns) (s .rows * s .columns) output) output
-  output-is = call .output ∙ ap (λ (o : Outcome Unit). leaves o (written (phaseAt s image) (0 * s .columns) (s .rows * s .columns) output) output) told
+  output-is : output₁ ≡ leaves (filteredCall s image (length output) (length work)) (filteredRows s 0 (s .rows) image output) output
+  output-is = call .output ∙ ap (λ (o : Outcome Unit). leaves o (filteredRows s 0 (s .rows) image output) output) told
 
-  work-is : work₁ ≡ leaves (filteredCall s image (length output) (length work)) (written (λ k. 0) 0 (need (engineFor s (length work)) s) work) work
-  work-is = call .work ∙ ap (λ (o : Outcome Unit). leaves o (written (λ k. 0) 0 (need (engineFor s (length work)) s) work) work) told
+  work-is : work₁ ≡ leaves (filteredCall s image (length output) (length work)) (zeroedWork (engineFor s (length work)) s work) work
+  work-is = call .work ∙ ap (λ (o : Outcome Unit). leaves o (zeroedWork (engineFor s (length work)) s work) work) told
 
   sheet-of : {text text₁ : List ℕ} {next : ℕ} → Laid text 0 (sheetText (thenAs (filterTold r) s) image) next text₁ → ImageSheet s image output work text next output₁ work₁ text₁
   sheet-of {text} {text₁} {next} l = record {
@@ -79,7 +79,7 @@ module _ {s : Shape} {image output work output₁ work₁ : List ℕ}
       ∙ length-written (phaseAt s image) (0 * s .columns) (s .rows * s .columns) output (omega arith) (tested .output-room) in
       (k .rows-fit, k .columns-fit, omega (arith, len, tested .output-room))
 
-  pub accepted-phases : (i : ℕ) → i < s .rows → Phases (s .cycle) (rowOf s output₁ i)
+  pub accepted-phases : (i : ℕ) → i < s .rows → Clear (rowRules (s .cycle) (rowOf s output₁ i))
   accepted-phases i h = rw (call .output) (output-phases ready fits output (tested .output-room) i h)
 
   pub accepted-lines : imageLines s output₁ ≡ imageLines s (filteredImage s image)
@@ -115,9 +115,8 @@ module _ {bytes readings output work text text₁ : List ℕ} {next : ℕ} where
       record {
         text = rw (e, ← (r .answer)) (i .text);
         readings = rw e (r .memory);
-        output = rw (e, ← (r .answer))
-            (i .output ∙ then-leaves o s (λ s. written (phaseAt s (imageIn bytes)) (0 * s .columns) (s .rows * s .columns) output) output);
-        work = rw (e, ← (r .answer)) (i .work ∙ then-leaves o s (λ s. written (λ k. 0) 0 (need (engineFor s (length work)) s) work) work);
+        output = rw (e, ← (r .answer)) (i .output ∙ then-leaves o s (λ s. filteredRows s 0 (s .rows) (imageIn bytes) output) output);
+        work = rw (e, ← (r .answer)) (i .work ∙ then-leaves o s (λ s. zeroedWork (engineFor s (length work)) s work) work);
       }
 
 -- the readings that were stored are the record's image
@@ -125,9 +124,7 @@ pub read-image : {bytes readings readings₁ : List ℕ} {s : Shape} → Reads b
     → (area s ≤ length readings₁) × (take (area s) readings₁ ≡ imageIn bytes)
 unfolding readCall
 read-image {bytes} {readings} {readings₁} {s} r =
-    let clear = accepted-clear (shapeIn bytes) (readRules bytes (length readings)) s (sym (r .answer)) in
-    let e : accepted s ≡ accepted (shapeIn bytes) = r .answer ∙ clear-accepted (shapeIn bytes) (readRules bytes (length readings)) clear in
-    let s-is : s ≡ shapeIn bytes = cc in
+    let s-is = accepted-value (shapeIn bytes) (readRules bytes (length readings)) s (sym (r .answer)) in
     let all = r .memory ∙ left-accepted (imageIn bytes) readings (sym (r .answer)) in
     let len : length (imageIn bytes) ≡ area s = length-image bytes ∙ ap area (sym s-is) in (
       omega (arith, ap length all, length-append (imageIn bytes) (drop (length (imageIn bytes)) readings), len),

@@ -10,7 +10,7 @@ use Rattle.lists.proofs.Tabulate.{length-tabulate}
 use Rattle.refusal.specs.Limits.{longestCycle}
 use Rattle.refusal.specs.Outcome.{Outcome}
 use Rattle.refusal.specs.Outcome.Outcome.{accepted, refused}
-use Rattle.refusal.proofs.Outcome.{clear-accepted, accepted-clear}
+use Rattle.refusal.proofs.Outcome.{accepted-clear, accepted-value}
 use Rattle.shape.specs.Rules.{area}
 use Rattle.shape.specs.declared.Shape.{Shape}
 use Rattle.window.specs.Phase.{phaseAt}
@@ -30,8 +30,7 @@ read-within : (bytes : List ℕ) (readings : ℕ) (s : Shape) → readCall bytes
 unfolding readCall rowAt
 read-within bytes readings s said =
     let clear = accepted-clear (shapeIn bytes) (readRules bytes readings) s said in
-    let e : accepted s ≡ accepted (shapeIn bytes) = sym said ∙ clear-accepted (shapeIn bytes) (readRules bytes readings) clear in
-    let s-is : s ≡ shapeIn bytes = cc in
+    let s-is = accepted-value (shapeIn bytes) (readRules bytes readings) s said in
     rw s-is (omega (arith, readable bytes readings clear .end .whole))
 
 -- an image that was filtered

@@ -16,8 +16,11 @@ use Rattle.cycle.specs.Distance.{isReading}
 use Rattle.cycle.specs.Step.{drift}
 use Rattle.shape.specs.declared.Shape.{Shape}
 use Rattle.text.proofs.TextLaws.{decimal-short, decimal-most, signed-short}
-use Rattle.sheet.proofs.Drifts.{drift-size}
-use Rattle.sheet.specs.Sheet.{mostBytes, refusalLine, headLine, phaseWords, rowLine, rowOf, Phases, imageLines}
+use Rattle.refusal.specs.Outcome.{Clear}
+use Rattle.cycle.specs.Calls.{rowRules}
+use Rattle.cycle.proofs.Accepted.{row-clear}
+use Rattle.cycle.proofs.Sizes.{drift-size}
+use Rattle.sheet.specs.Sheet.{mostBytes, refusalLine, headLine, phaseWords, rowLine, rowOf, imageLines}
 
 -- the line of a refusal
 pub refusal-short : (number place : ℕ) → length (refusalLine number place) ≤ 53
@@ -58,7 +61,7 @@ joined-short f w a (suc n) e =
 -- The lines of an image whose record has at most 16,384 bytes. A row's line has at most three bytes for each byte of its field, and 15 more
 -- where it has at most 30 phases, 18 where its drift may be longer; but of such rows there are at most 252.
 module _ (s : Shape) (phases : List ℕ) (m : s .rows ≤ mostRows) (n : s .columns ≤ mostColumns) (bytes : s .rows * (3 + 2 * s .columns) ≤ mostBytes)
-    (each : (i : ℕ) → i < s .rows → Phases (s .cycle) (rowOf s phases i)) where
+    (each : (i : ℕ) → i < s .rows → Clear (rowRules (s .cycle) (rowOf s phases i))) where
   -- the lines of the rows, where a drift has at most k + 2 bytes
   rows-short : (k : ℕ) → s .columns * 32767 < 10 ^ (k + 1)
       → length (joined (λ i. rowLine (s .cycle) i (rowOf s phases i)) 0 (s .rows)) ≤ s .rows * (19 + s .columns * 6 + k)
@@ -67,7 +70,7 @@ module _ (s : Shape) (phases : List ℕ) (m : s .rows ≤ mostRows) (n : s .colu
     where
       one : (i : ℕ) → i < s .rows → length (rowLine (s .cycle) i (rowOf s phases i)) ≤ 19 + s .columns * 6 + k
       one i h =
-          let p = each i h in
+          let p = row-clear (s .cycle) (rowOf s phases i) (each i h) in
           let l : length (rowOf s phases i) ≤ s .columns = omega (arith, length-take (s .columns) (drop (i * s .columns) phases)) in
           omega (arith, row-short (p .cycle-fits) i (rowOf s phases i) k (omega arith) (all-good (isReading (s .cycle)) _ (p .good)) (omega arith))
 

@@ -4,17 +4,20 @@ use mathlib.Core.Path.{_≡_, ap, sym, _∙_}
 use mathlib.Core.Bool.{true}
 use mathlib.Core.List.{List, _++_}
 use native.Mathlib.Omega.{arith}
-use native.Mathlib.Nat.{mul-le-mul-right}
 use borrow.Author.Tests.{lt-ltb}
 use lib.ListN.{length, take, drop, getD, length-take, length-drop}
 use lib.Seq.{ext-getD, getD-take, getD-drop}
 use Rattle.lists.specs.Tabulate.{tabulate, written}
 use Rattle.lists.proofs.Tabulate.{length-tabulate, getD-tabulate, each-tabulate}
 use Rattle.lists.proofs.Joined.{joined-cong}
+use Rattle.lists.proofs.Parts.{part-end}
 use Rattle.lists.proofs.First.{good-all}
 use Rattle.lists.proofs.Written.{written-inside, length-written}
 use Rattle.refusal.specs.Limits.{longestCycle}
+use Rattle.refusal.specs.Outcome.{Clear}
 use Rattle.cycle.specs.Distance.{isReading}
+use Rattle.cycle.specs.Calls.{rowRules}
+use Rattle.cycle.proofs.Accepted.{clear-row}
 use Rattle.shape.specs.Rules.{area}
 use Rattle.shape.specs.declared.Shape.{Shape}
 use Rattle.median.proofs.Choice.{chosen-below}
@@ -22,7 +25,7 @@ use Rattle.window.specs.Ready.{Ready}
 use Rattle.window.specs.Phase.{phase, phaseAt}
 use Rattle.window.proofs.Window.{sizes, centre-below}
 use Rattle.window.proofs.Phase.{phase-at}
-use Rattle.sheet.specs.Sheet.{headLine, rowLine, rowOf, filteredImage, imageLines, Phases}
+use Rattle.sheet.specs.Sheet.{headLine, rowLine, rowOf, filteredImage, imageLines}
 
 -- a row of an image, by its numbers
 row-is : (n : ℕ) (l : List ℕ) (k : ℕ) (f : ℕ → ℕ) → k + n ≤ length l → ((j : ℕ) → j < n → getD l (k + j) 0 ≡ f (k + j)) → take n (drop k l) ≡ tabulate f k n
@@ -42,13 +45,10 @@ lines-cong s p q e =
     (λ i a b. ap (rowLine (s .cycle) i) (e i (omega arith))))
 
 module _ {limit : ℕ} {s : Shape} {image : List ℕ} (ready : Ready limit s image) (small : limit ≤ longestCycle) where
-  row-end : (i : ℕ) → i < s .rows → i * s .columns + s .columns ≤ area s
-  row-end i h = omega (arith, mul-le-mul-right (s .columns) h)
-
   -- a row of the filtered image
   filtered-row : (i : ℕ) → i < s .rows → rowOf s (filteredImage s image) i ≡ tabulate (phaseAt s image) (i * s .columns) (s .columns)
   filtered-row i h =
-      let e = row-end i h in
+      let e = part-end i (s .rows) (s .columns) h in
       row-is (s .columns) (filteredImage s image) (i * s .columns) (phaseAt s image) (omega (arith, length-tabulate (phaseAt s image) 0 (area s)))
       (λ j g. getD-tabulate (phaseAt s image) 0 0 (area s) (i * s .columns + j) (omega arith) ∙ ap (phaseAt s image) (omega arith))
 
@@ -56,7 +56,7 @@ module _ {limit : ℕ} {s : Shape} {image : List ℕ} (ready : Ready limit s ima
   output-row : (output : List ℕ) → area s ≤ length output → (i : ℕ) → i < s .rows
       → rowOf s (written (phaseAt s image) (0 * s .columns) (s .rows * s .columns) output) i ≡ tabulate (phaseAt s image) (i * s .columns) (s .columns)
   output-row output room i h =
-      let e = row-end i h in
+      let e = part-end i (s .rows) (s .columns) h in
       row-is (s .columns) _ (i * s .columns) (phaseAt s image)
       (omega (arith, length-written (phaseAt s image) (0 * s .columns) (s .rows * s .columns) output (omega arith) room))
       (λ j g. written-inside (phaseAt s image) (0 * s .columns) (s .rows * s .columns) output (omega arith) room 0 (i * s .columns + j) (omega arith) (omega arith))
@@ -71,14 +71,14 @@ module _ {limit : ℕ} {s : Shape} {image : List ℕ} (ready : Ready limit s ima
   phase-tick i j hi hj = rw (phase-at s image i j hj) (lt-ltb _ (s .cycle) (chosen-below (s .cycle) _ _ (centre-below ready small i j hi hj)))
 
   pub output-phases : (output : List ℕ) → area s ≤ length output → (i : ℕ) → i < s .rows
-      → Phases (s .cycle) (rowOf s (written (phaseAt s image) (0 * s .columns) (s .rows * s .columns) output) i)
-  output-phases output room i h = rw (output-row output room i h) (record {
+      → Clear (rowRules (s .cycle) (rowOf s (written (phaseAt s image) (0 * s .columns) (s .rows * s .columns) output) i))
+  output-phases output room i h = rw (output-row output room i h) (clear-row (s .cycle) _ (record {
     cycle-some = sizes ready small .cycle-some;
     cycle-fits = omega (arith, sizes ready small .cycle-fits);
     some = omega (arith, length-tabulate (phaseAt s image) (i * s .columns) (s .columns), sizes ready small .columns-some);
     short = omega (arith, length-tabulate (phaseAt s image) (i * s .columns) (s .columns), sizes ready small .columns-fit);
     good = good-all (isReading (s .cycle)) _ (each-tabulate (λ y. isReading (s .cycle) y ≡ true) (phaseAt s image) (i * s .columns) (s .columns) tick);
-  })
+  }))
     where
       tick : (k : ℕ) → i * s .columns ≤ k → k < i * s .columns + s .columns → isReading (s .cycle) (phaseAt s image k) ≡ true
       tick k a b =

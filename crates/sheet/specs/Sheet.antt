@@ -1,24 +1,22 @@
 -- Document 01, "The bench sheet": the text that is printed for the bytes of a record.
-use Prim.Native.Nat.{ℕ, _*_, _≤_, _<_}
+use Prim.Native.Nat.{ℕ, _*_}
 use mathlib.Core.Path.{_≡_}
 use mathlib.Core.Bool.{cond}
 use mathlib.Core.List.{List, [], _∷_, _++_}
 use lib.Dec.{ltb}
 use lib.ListN.{length, take, drop}
-use Rattle.lists.specs.Tabulate.{tabulate, written}
+use Rattle.lists.specs.Tabulate.{tabulate}
 use Rattle.lists.specs.Joined.{joined}
-use Rattle.lists.specs.First.{firstBad}
-use Rattle.refusal.specs.Limits.{longestCycle, levelCycle, mostColumns}
+use Rattle.refusal.specs.Limits.{levelCycle}
 use Rattle.refusal.specs.Outcome.{Outcome, leaves}
 use Rattle.refusal.specs.Outcome.Outcome.{accepted, refused}
-use Rattle.cycle.specs.Distance.{isReading}
 use Rattle.cycle.specs.Step.{drift}
 use Rattle.shape.specs.Rules.{area}
 use Rattle.shape.specs.declared.Shape.{Shape}
 use Rattle.window.specs.Phase.{phaseAt}
 use Rattle.filter.specs.declared.Engine.{Engine}
 use Rattle.filter.specs.declared.Engine.the-variants.{Level, Reading}
-use Rattle.filter.specs.Calls.{need, filterCall}
+use Rattle.filter.specs.Calls.{need, filterCall, filteredRows, zeroedWork}
 use Rattle.record_format.specs.Reading.{imageIn, readCall}
 use Rattle.record.specs.Calls.{left}
 use Rattle.text.specs.Text.{decimal, signed, Laid}
@@ -59,14 +57,6 @@ rowLine c i phases = counted rowWord i ++ (colon ++ (phaseWords phases ++ (drift
 abbrev pub rowOf : Shape → List ℕ → ℕ → List ℕ
 rowOf s phases i = take (s .columns) (drop (i * s .columns) phases)
 
--- phases of a row that has a drift: ticks of the cycle, and not too many
-pub record Phases (c : ℕ) (row : List ℕ) : Type 0 where
-  pub cycle-some : 0 < c
-  pub cycle-fits : c ≤ longestCycle
-  pub some : 0 < length row
-  pub short : length row ≤ mostColumns
-  pub good : length row ≤ firstBad (isReading c) row
-
 -- the lines of a filtered image
 unfoldable pub imageLines : Shape → List ℕ → List ℕ
 imageLines s phases = headLine s ++ joined (λ i. rowLine (s .cycle) i (rowOf s phases i)) 0 (s .rows)
@@ -105,16 +95,14 @@ afterwards (refused number place) new old = old
 -- The sheet of an image: its text, laid into the text memory, and all lent memory at the end.
 pub record ImageSheet (s : Shape) (image output₀ work₀ text₀ : List ℕ) (next : ℕ) (output₁ work₁ text₁ : List ℕ) : Type 0 where
   pub text : Laid text₀ 0 (sheetText (thenAs (filteredCall s image (length output₀) (length work₀)) s) image) next text₁
-  pub output : output₁ ≡ leaves (filteredCall s image (length output₀) (length work₀))
-      (written (phaseAt s image) (0 * s .columns) (s .rows * s .columns) output₀) output₀
-  pub work : work₁ ≡ leaves (filteredCall s image (length output₀) (length work₀))
-      (written (λ k. 0) 0 (need (engineFor s (length work₀)) s) work₀) work₀
+  pub output : output₁ ≡ leaves (filteredCall s image (length output₀) (length work₀)) (filteredRows s 0 (s .rows) image output₀) output₀
+  pub work : work₁ ≡ leaves (filteredCall s image (length output₀) (length work₀)) (zeroedWork (engineFor s (length work₀)) s work₀) work₀
 
 -- The sheet of a record: its text, laid into the text memory, and all lent memory at the end.
 pub record Sheet (bytes readings₀ output₀ work₀ text₀ : List ℕ) (next : ℕ) (readings₁ output₁ work₁ text₁ : List ℕ) : Type 0 where
   pub text : Laid text₀ 0 (sheetText (sheetCall bytes (length readings₀) (length output₀) (length work₀)) (imageIn bytes)) next text₁
   pub readings : readings₁ ≡ cond (ltb mostBytes (length bytes)) readings₀ (left (readCall bytes (length readings₀)) (imageIn bytes) readings₀)
   pub output : output₁ ≡ afterwards (sheetCall bytes (length readings₀) (length output₀) (length work₀))
-      (λ s. written (phaseAt s (imageIn bytes)) (0 * s .columns) (s .rows * s .columns) output₀) output₀
+      (λ s. filteredRows s 0 (s .rows) (imageIn bytes) output₀) output₀
   pub work : work₁ ≡ afterwards (sheetCall bytes (length readings₀) (length output₀) (length work₀))
-      (λ s. written (λ k. 0) 0 (need (engineFor s (length work₀)) s) work₀) work₀
+      (λ s. zeroedWork (engineFor s (length work₀)) s work₀) work₀

@@ -11,11 +11,13 @@ ghost use Prim.Native.Nat.{ℕ, _≤_, _<_};
 ghost use lib.ListN.{length};
 ghost use Rattle.refusal.specs.Limits.{mostRows, mostColumns};
 ghost use Rattle.refusal.specs.Table.{numberOf, placeOf};
+ghost use Rattle.refusal.specs.Outcome.{Clear};
+ghost use Rattle.cycle.specs.Calls.{rowRules};
 ghost use Rattle.cycle.specs.Step.{drift};
 ghost use Rattle.shape.specs.Rules.{area};
 ghost use Rattle.text.specs.Text.{Laid};
 ghost use Rattle.sheet.specs.Words.{space};
-ghost use Rattle.sheet.specs.Sheet.{counted, refusalLine, headLine, phaseWords, rowLine, rowOf, imageLines, Phases};
+ghost use Rattle.sheet.specs.Sheet.{counted, refusalLine, headLine, phaseWords, rowLine, rowOf, imageLines};
 
 // A word and a number after it.
 fn put_counted(text: &mut [u8], at: usize, word: &[u8], n: u64) -> usize
@@ -70,7 +72,7 @@ fn put_phases(text: &mut [u8], at: usize, row: &[u16]) -> usize
 
 // The drift of a row of phases.
 fn row_drift(cycle: u32, row: &[u16]) -> i32
-    requires { ⌜ Phases cycle (now row) ⌝ }
+    requires { ⌜ Clear (rowRules cycle (now row)) ⌝ }
     ensures { λ r. ⌜ r ≡ drift cycle (now (row .entry)) ⌝ }
 {
     match cycle::drift(cycle, row) {
@@ -81,7 +83,7 @@ fn row_drift(cycle: u32, row: &[u16]) -> i32
 
 // The line of a row.
 fn put_row(text: &mut [u8], at: usize, cycle: u32, i: usize, row: &[u16]) -> usize
-    requires { ⌜ (at ≤ length (now text)) × Phases cycle (now row) ⌝ }
+    requires { ⌜ (at ≤ length (now text)) × Clear (rowRules cycle (now row)) ⌝ }
     ensures { λ r. ⌜ Laid (now (text .entry)) at (rowLine cycle i (now (row .entry))) r (now (text .exit)) ⌝ }
 {
     let name = put_counted(text, at, b"row ", i as u64);
@@ -95,7 +97,7 @@ fn put_row(text: &mut [u8], at: usize, cycle: u32, i: usize, row: &[u16]) -> usi
 // All lines of a filtered image.
 pub fn put_lines(text: &mut [u8], shape: Shape, phases: &[u16]) -> usize
     requires { ⌜ (shape .rows ≤ mostRows) × (shape .columns ≤ mostColumns) × (area shape ≤ length (now phases)) ⌝ }
-    requires { ⌜ ((i : ℕ) → i < shape .rows → Phases (shape .cycle) (rowOf shape (now phases) i)) ⌝ }
+    requires { ⌜ ((i : ℕ) → i < shape .rows → Clear (rowRules (shape .cycle) (rowOf shape (now phases) i))) ⌝ }
     ensures { λ r. ⌜ Laid (now (text .entry)) 0 (imageLines shape (now (phases .entry))) r (now (text .exit)) ⌝ }
 {
     let columns = shape.columns as usize;

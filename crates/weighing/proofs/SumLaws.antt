@@ -3,11 +3,12 @@ use Prim.Native.Nat.{ℕ, _+_, _*_, _%_, _^_, _≤_, _<_}
 use mathlib.Core.Path.{_≡_, ap, sym, _∙_}
 use mathlib.Core.List.{List}
 use native.Mathlib.Omega.{arith}
-use native.Mathlib.Nat.{add-zero, mod-lt, mul-le-mul, mul-le-mul-right}
+use native.Mathlib.Nat.{add-zero, mod-lt, mul-le-mul}
 use lib.ListN.{length, getD}
 use Rattle.lists.specs.Members.{In}
 use Rattle.lists.specs.Difference.{difference}
 use Rattle.lists.proofs.Difference.{difference-is}
+use Rattle.lists.proofs.Parts.{part-end}
 use Rattle.refusal.specs.Limits.{longestCycle, mostColumns, mostMaskRows, mostMaskColumns}
 use Rattle.shape.specs.Rules.{reach}
 use Rattle.shape.specs.declared.Shape.{Shape}
@@ -38,7 +39,7 @@ module _ {s : Shape} {image : List ℕ} (ready : Ready longestCycle s image) whe
 
   -- a row lies within the image, and its readings are ticks
   pub row-room : (i : ℕ) → i < s .rows → i * s .columns + s .columns ≤ length image
-  row-room i h = omega (arith, ready .size, mul-le-mul-right (s .columns) h)
+  row-room i h = omega (arith, ready .size, part-end i (s .rows) (s .columns) h)
 
   pub image-fits : length image ≤ 8388608
   image-fits = omega (arith, ready .size, area-fits accepted)

@@ -7,7 +7,7 @@ use lib.ListN.{length}
 use Rattle.lists.specs.Joined.{joined}
 use Rattle.lists.proofs.Joined.{joined-more, length-joined}
 use Rattle.lists.proofs.Stores.{Stored, stored-none, stored-more}
-use Rattle.record_format.proofs.Fields.{part-end}
+use Rattle.lists.proofs.Parts.{part-end}
 use Rattle.record_format.specs.Fields.{numbersAt}
 use Rattle.record_format.specs.Reading.{rowsIn, columnsIn, rowAt, rowIn, imageIn}
 use Rattle.record_format.proofs.Readable.{row-next, length-row-in, Readable, readable}

@@ -8,7 +8,8 @@ use Rattle.lists.specs.Joined.{joined}
 use Rattle.lists.proofs.Joined.{joined-more}
 use Rattle.lists.proofs.Stores.{Stored, stored-none, stored-more}
 use Rattle.record_format.specs.Record.{rowOf, rowField}
-use Rattle.record_format.proofs.Fields.{part-end, length-row-fields}
+use Rattle.lists.proofs.Parts.{part-end}
+use Rattle.record_format.proofs.Fields.{length-row-fields}
 use Rattle.record_write.proofs.put_rows.Statement.{statement}
 use Rattle.record_write.proofs.put_rows.Tie as tie
 

@@ -5,7 +5,7 @@ use native.Mathlib.Nat.{mul-le-mul-right}
 use native.Mathlib.Omega.{arith}
 use borrow.Author.Needs.{needs}
 use lib.ListN.{length}
-use Rattle.level.proofs.RowLaws.{next-place, given-kept, row-room}
+use Rattle.level.proofs.RowLaws.{next-place, given-kept}
 use Rattle.level_sums.proofs.Spots.{accepted}
 use Rattle.level_sums.specs.Sums.{RowSums}
 use Rattle.memory.specs.Memory.{Outside}
@@ -14,6 +14,7 @@ use Rattle.window.specs.Phase.{phaseAt}
 use Rattle.shape.proofs.Accepted.{area-fits}
 use Rattle.lists.proofs.Written.{Run, run-start, run-part, written-none, written-join, part-length}
 use Rattle.lists.specs.Tabulate.{written}
+use Rattle.lists.proofs.Parts.{part-end}
 use Rattle.level.proofs.rows.fill.Statement.{statement}
 use Rattle.level.proofs.rows.fill.Tie as tie
 
@@ -48,7 +49,7 @@ mul-start c =
     let a = s .args in
     let g = s .pre .0 in
     let n = a .shape .columns in
-    let room = row-room (a .shape .rows) n (a .first) (omega arith) in
+    let room = part-end (a .first) (a .shape .rows) n (omega arith) in
     omega (arith, room, area-fits (accepted g))
 
 add-stop : tie.Need-add-stop Inv-loop μ-loop
@@ -57,7 +58,7 @@ add-stop c =
     let a = s .args in
     let g = s .pre .0 in
     let n = a .shape .columns in
-    let room = row-room (a .shape .rows) n (a .first) (omega arith) in
+    let room = part-end (a .first) (a .shape .rows) n (omega arith) in
     omega (arith, room, area-fits (accepted g))
 
 slice-aggregate-first-row : tie.Need-slice-aggregate-first-row Inv-loop μ-loop
@@ -69,7 +70,7 @@ mul-first-row c =
     let a = s .args in
     let g = s .pre .0 in
     let n = a .shape .columns in
-    let room = row-room (a .shape .rows) n (a .first) (omega arith) in
+    let room = part-end (a .first) (a .shape .rows) n (omega arith) in
     omega (arith, room, area-fits (accepted g))
 
 sub-first-row : tie.Need-sub-first-row Inv-loop μ-loop
@@ -84,7 +85,7 @@ part-first-row-end c =
     let a = s .args in
     let g = s .pre .0 in
     let n = a .shape .columns in
-    let room = row-room (a .shape .rows) n (a .first) (omega arith) in
+    let room = part-end (a .first) (a .shape .rows) n (omega arith) in
     omega (arith, room)
 
 first-row-requires : tie.Need-first-row-requires Inv-loop μ-loop
@@ -93,7 +94,7 @@ first-row-requires c κs =
     let a = s .args in
     let g = s .pre .0 in
     let n = a .shape .columns in
-    let room = row-room (a .shape .rows) n (a .first) (omega arith) in
+    let room = part-end (a .first) (a .shape .rows) n (omega arith) in
     ((g, c .before .before .before .distances .ensures), (omega arith, part-length (a .first * n) n (a .output .now) (omega (arith, room))))
 
 loop-holds : tie.Need-loop-holds Inv-loop μ-loop
@@ -119,7 +120,7 @@ mul-a c =
     let g = s .pre .0 in
     let n = a .shape .columns in
     let l = c .before .loop in
-    let room = row-room (a .shape .rows) n (l .i + 1) (omega arith) in
+    let room = part-end (l .i + 1) (a .shape .rows) n (omega arith) in
     omega (arith, room, area-fits (accepted g))
 
 add-b : tie.Need-add-b Inv-loop μ-loop
@@ -129,7 +130,7 @@ add-b c =
     let g = s .pre .0 in
     let n = a .shape .columns in
     let l = c .before .loop in
-    let room = row-room (a .shape .rows) n (l .i + 1) (omega arith) in
+    let room = part-end (l .i + 1) (a .shape .rows) n (omega arith) in
     omega (arith, room, area-fits (accepted g))
 
 slice-aggregate-next-row : tie.Need-slice-aggregate-next-row Inv-loop μ-loop
@@ -142,7 +143,7 @@ mul-next-row c =
     let g = s .pre .0 in
     let n = a .shape .columns in
     let l = c .before .before .before .loop in
-    let room = row-room (a .shape .rows) n (l .i + 1) (omega arith) in
+    let room = part-end (l .i + 1) (a .shape .rows) n (omega arith) in
     omega (arith, room, area-fits (accepted g))
 
 sub-next-row : tie.Need-sub-next-row Inv-loop μ-loop
@@ -158,8 +159,8 @@ part-next-row-end c =
     let g = s .pre .0 in
     let n = a .shape .columns in
     let l = c .before .before .before .loop in
-    let room = row-room (a .shape .rows) n (l .i + 1) (omega arith) in
-    let room0 = row-room (a .shape .rows) n (a .first) (omega arith) in
+    let room = part-end (l .i + 1) (a .shape .rows) n (omega arith) in
+    let room0 = part-end (a .first) (a .shape .rows) n (omega arith) in
     let f = phaseAt (a .shape) (a .image .now) in
     let o = run-part (run-start {f = f} {a = a .first * n} {l = a .output .now}) n _ (omega (arith, room0))
     (c .before .before .before .before .before .before .before .before .first-row .ensures .0) in
@@ -172,8 +173,8 @@ next-row-requires c κs =
     let g = s .pre .0 in
     let n = a .shape .columns in
     let l = c .before .before .before .before .loop in
-    let room = row-room (a .shape .rows) n (l .i + 1) (omega arith) in
-    let room0 = row-room (a .shape .rows) n (a .first) (omega arith) in
+    let room = part-end (l .i + 1) (a .shape .rows) n (omega arith) in
+    let room0 = part-end (a .first) (a .shape .rows) n (omega arith) in
     let f = phaseAt (a .shape) (a .image .now) in
     let o = run-part (run-start {f = f} {a = a .first * n} {l = a .output .now}) n _ (omega (arith, room0))
     (c .before .before .before .before .before .before .before .before .before .first-row .ensures .0) in (
@@ -203,8 +204,8 @@ loop-again c =
     let g = s .pre .0 in
     let n = a .shape .columns in
     let l = c .before .before .before .before .before .before .before .before .before .loop in
-    let room = row-room (a .shape .rows) n (l .i + 1) (omega arith) in
-    let room0 = row-room (a .shape .rows) n (a .first) (omega arith) in
+    let room = part-end (l .i + 1) (a .shape .rows) n (omega arith) in
+    let room0 = part-end (a .first) (a .shape .rows) n (omega arith) in
     let f = phaseAt (a .shape) (a .image .now) in
     let o = run-part (run-start {f = f} {a = a .first * n} {l = a .output .now}) n _ (omega (arith, room0))
     (c .before .before .before .before .before .before .before .before .before .before .before .before .before .before .first-row .ensures .0) in
@@ -224,7 +225,7 @@ same-length c =
     let g = s .pre .0 in
     let n = a .shape .columns in
     let l = c .before .loop in
-    let room = row-room (a .shape .rows) n (a .first) (omega arith) in
+    let room = part-end (a .first) (a .shape .rows) n (omega arith) in
     let f = phaseAt (a .shape) (a .image .now) in
     let o = run-part (run-start {f = f} {a = a .first * n} {l = a .output .now}) n _ (omega (arith, room))
     (c .before .before .before .before .before .before .first-row .ensures .0) in
@@ -246,7 +247,7 @@ returns-2 c =
     let g = s .pre .0 in
     let n = a .shape .columns in
     let l = c .before .loop in
-    let room = row-room (a .shape .rows) n (a .first) (omega arith) in
+    let room = part-end (a .first) (a .shape .rows) n (omega arith) in
     let f = phaseAt (a .shape) (a .image .now) in
     let o = run-part (run-start {f = f} {a = a .first * n} {l = a .output .now}) n _ (omega (arith, room))
     (c .before .before .before .before .before .before .first-row .ensures .0) in

@@ -6,7 +6,8 @@ use lib.ListN.{length}
 use Rattle.refusal.specs.Limits.{longestCycle}
 use Rattle.shape.proofs.Accepted.{shape-clear, area-fits}
 use Rattle.window.proofs.Mirror.{mirror-below}
-use Rattle.planes.proofs.Padding.{row-inside, line-made}
+use Rattle.lists.proofs.Parts.{part-end}
+use Rattle.planes.proofs.Padding.{line-made}
 use Rattle.planes.proofs.line.pad.Statement.{statement}
 use Rattle.planes.proofs.line.pad.Tie as tie
 
@@ -18,7 +19,7 @@ inside : (c : tie.After-mirrored) → let a = c .before .before .before .before 
 inside c =
     let s = c .before .before .before .before .before .before .before in
     let k = shape-clear longestCycle (s .args .shape) (s .pre .0 .shape) in
-    let below = row-inside (s .args .shape .rows) (s .args .shape .columns) (c .mirrored .result)
+    let below = part-end (c .mirrored .result) (s .args .shape .rows) (s .args .shape .columns)
     (rw (c .mirrored .ensures) (mirror-below _ _ _ (k .rows-reach) (s .pre .1))) in
     (omega (arith, below, s .pre .0 .size), omega (arith, below, area-fits k))
 

@@ -3,7 +3,8 @@ use mathlib.Core.Path.{_∙_}
 use borrow.Author.Needs.{needs}
 use mir.Facts.{toZ-ofZ}
 use mir.Syntax.{w32}
-use Rattle.sheet.proofs.Drifts.{drift-fits, told-drift, never-refused}
+use Rattle.cycle.proofs.Sizes.{drift-fits}
+use Rattle.sheet.proofs.Drifts.{told-drift, never-refused}
 use Rattle.sheet.proofs.layout.row_drift.Statement.{statement}
 use Rattle.sheet.proofs.layout.row_drift.Tie as tie
 

@@ -1,0 +1,55 @@
+-- `circle_median::circle_median_distance` meets its contract. Assumes nothing.
+use Prim.Native.Nat.{ℕ}
+use mathlib.Core.Path.{_≡_, ap, _∙_}
+use native.Mathlib.Omega.{arith}
+use borrow.Author.Needs.{needs}
+use lib.IntN.{ℤ}
+use mir.Facts.{toZ-pos}
+use mir.Syntax.{w64}
+use Rattle.refusal.specs.Outcome.{Outcome}
+use Rattle.refusal.specs.Outcome.Outcome.{accepted}
+use Rattle.circle_median.specs.Answers.{valueOf, natural}
+use Rattle.circle_median.proofs.circle_median_distance.Statement.{statement}
+use Rattle.circle_median.proofs.circle_median_distance.Tie as tie
+
+distance-requires : tie.Need-distance-requires
+distance-requires c κs = search needs
+
+enum-known-f : tie.Need-enum-known-f
+enum-known-f c = search needs
+
+refused-value-requires : tie.Need-refused-value-requires
+refused-value-requires c κs = search needs
+
+enum-known-d : tie.Need-enum-known-d
+enum-known-d c = search needs
+
+cast-value-answer : tie.Need-cast-value-answer
+cast-value-answer c = search needs
+
+value-answer-requires : tie.Need-value-answer-requires
+value-answer-requires c κs = search needs
+
+returns : tie.Need-returns
+returns c =
+    c .refused-value .ensures
+    ∙ ap (λ (o : Outcome ℕ). valueOf (natural o)) (rw (c .before .before .f .given .1) at (c .before .before .before .before .distance .ensures))
+
+returns-2 : tie.Need-returns-2
+returns-2 c =
+    c .value-answer .ensures
+    ∙ ap (λ (z : ℤ). valueOf (accepted z)) (toZ-pos w64 (omega arith))
+    ∙ ap (λ (o : Outcome ℕ). valueOf (natural o)) (rw (c .before .before .d .given .1) at (c .before .before .before .before .distance .ensures))
+
+pub circle-median-distance-spec : {M : Type 1} → statement M
+circle-median-distance-spec =
+    tie.close
+    (tie.spec
+    distance-requires
+    enum-known-f
+    refused-value-requires
+    enum-known-d
+    cast-value-answer
+    value-answer-requires
+    returns
+    returns-2)

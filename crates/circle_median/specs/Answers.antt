@@ -1,0 +1,48 @@
+-- How the exported functions tell an outcome in plain numbers: "number 0 means accepted"; a refusal gives its number and its place,
+-- and 0 for everything else.
+use Prim.Native.Nat.{ℕ}
+use mathlib.Core.Bool.{Bool, cond}
+use lib.IntN.{ℤ, pos}
+use Rattle.refusal.specs.Outcome.{Outcome}
+use Rattle.refusal.specs.Outcome.Outcome.{accepted, refused}
+use Rattle.shape.specs.declared.Shape.{Shape}
+use Rattle.circle_median.specs.declared.answers.Answer.{Answer}
+use Rattle.circle_median.specs.declared.answers.ValueAnswer.{ValueAnswer}
+use Rattle.circle_median.specs.declared.answers.RecordAnswer.{RecordAnswer}
+
+-- the five numbers C, M, N, R and T as a shape
+abbrev pub shapeOf : ℕ → ℕ → ℕ → ℕ → ℕ → Shape
+shapeOf c m n r t = record { cycle = c; rows = m; columns = n; «mask_rows» = r; «mask_columns» = t }
+
+-- of a call without a value
+abbrev pub answerOf : Outcome Unit → Answer
+answerOf (accepted result) = record { number = 0; place = 0 }
+answerOf (refused n k) = record { number = n; place = k }
+
+-- of a call with a value
+abbrev pub valueOf : Outcome ℤ → ValueAnswer
+valueOf (accepted v) = record { number = 0; place = 0; value = v }
+valueOf (refused n k) = record { number = n; place = k; value = pos 0 }
+
+-- of the reader of records
+abbrev pub recordOf : Outcome Shape → RecordAnswer
+recordOf (accepted s) = record {
+  number = 0;
+  place = 0;
+  cycle = s .cycle;
+  rows = s .rows;
+  columns = s .columns;
+  «mask_rows» = s .«mask_rows»;
+  «mask_columns» = s .«mask_columns»;
+}
+recordOf (refused n k) = record { number = n; place = k; cycle = 0; rows = 0; columns = 0; «mask_rows» = 0; «mask_columns» = 0 }
+
+-- a value that is a natural number: a distance or a length
+abbrev pub natural : Outcome ℕ → Outcome ℤ
+natural (accepted n) = accepted (pos n)
+natural (refused n k) = refused n k
+
+-- a value that is yes or no: 1 or 0
+abbrev pub flag : Outcome Bool → Outcome ℤ
+flag (accepted b) = accepted (cond b (pos 1) (pos 0))
+flag (refused n k) = refused n k

@@ -1,0 +1,111 @@
+// The structs that C sees, and what the calls take and answer turned into theirs.
+use filter::FilterAnswer;
+use record::ReadAnswer;
+use refusal::Refusal;
+use shape::Shape;
+ghost use mathlib.Core.Path.{_≡_};
+ghost use Rattle.refusal.specs.Outcome.{refusal};
+ghost use Rattle.refusal.specs.Outcome.Outcome.{accepted};
+ghost use Rattle.filter.specs.Calls.{filterTold};
+ghost use Rattle.record.specs.Calls.{readTold};
+ghost use Rattle.circle_median.specs.Answers.{shapeOf, answerOf, valueOf, recordOf};
+
+// Number 0 means accepted; any other is a refusal's, with its place.
+#[repr(C)]
+pub struct Answer {
+    pub number: u32,
+    pub place: u64,
+}
+
+// An answer with a value, 0 if the call was refused.
+#[repr(C)]
+pub struct ValueAnswer {
+    pub number: u32,
+    pub place: u64,
+    pub value: i64,
+}
+
+// An answer with the five numbers of a record, 0 if it was refused.
+#[repr(C)]
+pub struct RecordAnswer {
+    pub number: u32,
+    pub place: u64,
+    pub cycle: u32,
+    pub rows: u32,
+    pub columns: u32,
+    pub mask_rows: u32,
+    pub mask_columns: u32,
+}
+
+// The paper's C, M, N, R and T as a shape.
+pub fn shape_of(cycle: u32, rows: u32, columns: u32, mask_rows: u32, mask_columns: u32) -> Shape
+    ensures { λ r. ⌜ r ≡ shapeOf cycle rows columns «mask_rows» «mask_columns» ⌝ }
+{
+    Shape {
+        cycle: cycle,
+        rows: rows,
+        columns: columns,
+        mask_rows: mask_rows,
+        mask_columns: mask_columns,
+    }
+}
+
+pub fn value_answer(v: i64) -> ValueAnswer
+    ensures { λ r. ⌜ r ≡ valueOf (accepted v) ⌝ }
+{
+    ValueAnswer {
+        number: 0,
+        place: 0,
+        value: v,
+    }
+}
+
+pub fn refused_value(f: Refusal) -> ValueAnswer
+    ensures { λ r. ⌜ r ≡ valueOf (refusal f) ⌝ }
+{
+    ValueAnswer {
+        number: refusal::number(f),
+        place: refusal::place(f) as u64,
+        value: 0,
+    }
+}
+
+pub fn filter_answer(told: FilterAnswer) -> Answer
+    ensures { λ r. ⌜ r ≡ answerOf (filterTold told) ⌝ }
+{
+    match told {
+        FilterAnswer::Filtered => Answer {
+            number: 0,
+            place: 0,
+        },
+        FilterAnswer::Refused(f) => Answer {
+            number: refusal::number(f),
+            place: refusal::place(f) as u64,
+        },
+    }
+}
+
+pub fn record_answer(told: ReadAnswer) -> RecordAnswer
+    ensures { λ r. ⌜ r ≡ recordOf (readTold told) ⌝ }
+{
+    match told {
+        ReadAnswer::Read(shape) => RecordAnswer {
+            number: 0,
+            place: 0,
+            cycle: shape.cycle,
+            rows: shape.rows,
+            columns: shape.columns,
+            mask_rows: shape.mask_rows,
+            mask_columns: shape.mask_columns,
+        },
+        ReadAnswer::Refused(f) => RecordAnswer {
+            number: refusal::number(f),
+            place: refusal::place(f) as u64,
+            cycle: 0,
+            rows: 0,
+            columns: 0,
+            mask_rows: 0,
+            mask_columns: 0,
+        },
+    }
+}

@@ -1,0 +1,135 @@
+// The proved calls for programs in C and Rust. Each function hands its arguments to one call and tells the
+// answer in plain numbers; include/circle_median.h declares the same functions and structs.
+mod answers;
+
+use answers::Answer;
+use answers::RecordAnswer;
+use answers::ValueAnswer;
+use answers::filter_answer;
+use answers::record_answer;
+use answers::refused_value;
+use answers::shape_of;
+use answers::value_answer;
+use cycle::DistanceAnswer;
+use cycle::DriftAnswer;
+use cycle::SlotAnswer;
+use cycle::StepAnswer;
+use record::WriteAnswer;
+ghost use mathlib.Core.Path.{_≡_};
+ghost use Rattle.cycle.specs.Calls.{distanceCall, stepCall, slotCall, driftCall};
+ghost use Rattle.filter.specs.declared.Engine.the-variants.{Level, Reading};
+ghost use Rattle.circle_median.specs.Answers.{shapeOf, valueOf, natural, flag};
+ghost use Rattle.circle_median.specs.Calls.{ExportedFilter, ExportedWrite, ExportedRead};
+
+// The level engine: cycles up to 4,096, and C·(N + 1) numbers of work memory.
+#[no_mangle]
+pub extern "C" fn circle_median_level(
+    cycle: u32,
+    rows: u32,
+    columns: u32,
+    mask_rows: u32,
+    mask_columns: u32,
+    first: u32,
+    end: u32,
+    input: &[u16],
+    output: &mut [u16],
+    work: &mut [u32],
+) -> Answer
+    ensures { λ r. ⌜ ExportedFilter Level (shapeOf cycle rows columns «mask_rows» «mask_columns») first end (now (input .entry)) (now (output .entry)) (now (work .entry)) r (now (output .exit)) (now (work .exit)) ⌝ }
+{
+    let shape = shape_of(cycle, rows, columns, mask_rows, mask_columns);
+    filter_answer(filter::level(shape, first, end, input, output, work))
+}
+
+// The reading engine: every cycle, and R·T·(N + 1) numbers of work memory.
+#[no_mangle]
+pub extern "C" fn circle_median_reading(
+    cycle: u32,
+    rows: u32,
+    columns: u32,
+    mask_rows: u32,
+    mask_columns: u32,
+    first: u32,
+    end: u32,
+    input: &[u16],
+    output: &mut [u16],
+    work: &mut [u32],
+) -> Answer
+    ensures { λ r. ⌜ ExportedFilter Reading (shapeOf cycle rows columns «mask_rows» «mask_columns») first end (now (input .entry)) (now (output .entry)) (now (work .entry)) r (now (output .exit)) (now (work .exit)) ⌝ }
+{
+    let shape = shape_of(cycle, rows, columns, mask_rows, mask_columns);
+    filter_answer(filter::reading(shape, first, end, input, output, work))
+}
+
+// The value is the distance of two ticks.
+#[no_mangle]
+pub extern "C" fn circle_median_distance(cycle: u32, a: u16, b: u16) -> ValueAnswer
+    ensures { λ r. ⌜ r ≡ valueOf (natural (distanceCall cycle a b)) ⌝ }
+{
+    match cycle::distance(cycle, a, b) {
+        DistanceAnswer::Refused(f) => refused_value(f),
+        DistanceAnswer::Distance(d) => value_answer(d as i64),
+    }
+}
+
+// The value is the signed step from a to b.
+#[no_mangle]
+pub extern "C" fn circle_median_step(cycle: u32, a: u16, b: u16) -> ValueAnswer
+    ensures { λ r. ⌜ r ≡ valueOf (stepCall cycle a b) ⌝ }
+{
+    match cycle::step(cycle, a, b) {
+        StepAnswer::Refused(f) => refused_value(f),
+        StepAnswer::Step(s) => value_answer(s as i64),
+    }
+}
+
+// The value is 1 if tick p is in the slot that starts at s and is w wide, and else 0.
+#[no_mangle]
+pub extern "C" fn circle_median_slot(cycle: u32, p: u16, s: u16, w: u16) -> ValueAnswer
+    ensures { λ r. ⌜ r ≡ valueOf (flag (slotCall cycle p s w)) ⌝ }
+{
+    match cycle::slot(cycle, p, s, w) {
+        SlotAnswer::Refused(f) => refused_value(f),
+        SlotAnswer::Inside => value_answer(1),
+        SlotAnswer::Outside => value_answer(0),
+    }
+}
+
+// The value is the drift of a row.
+#[no_mangle]
+pub extern "C" fn circle_median_drift(cycle: u32, row: &[u16]) -> ValueAnswer
+    ensures { λ r. ⌜ r ≡ valueOf (driftCall cycle (now (row .entry))) ⌝ }
+{
+    match cycle::drift(cycle, row) {
+        DriftAnswer::Refused(f) => refused_value(f),
+        DriftAnswer::Drift(d) => value_answer(d as i64),
+    }
+}
+
+// Writes a record to the front of bytes; the value is its length.
+#[no_mangle]
+pub extern "C" fn circle_median_write(
+    cycle: u32,
+    rows: u32,
+    columns: u32,
+    mask_rows: u32,
+    mask_columns: u32,
+    readings: &[u16],
+    bytes: &mut [u8],
+) -> ValueAnswer
+    ensures { λ r. ⌜ ExportedWrite (shapeOf cycle rows columns «mask_rows» «mask_columns») (now (readings .entry)) (now (bytes .entry)) r (now (bytes .exit)) ⌝ }
+{
+    let shape = shape_of(cycle, rows, columns, mask_rows, mask_columns);
+    match record::write(shape, readings, bytes) {
+        WriteAnswer::Refused(f) => refused_value(f),
+        WriteAnswer::Written(n) => value_answer(n as i64),
+    }
+}
+
+// Reads a record; its readings stand at the front of the buffer.
+#[no_mangle]
+pub extern "C" fn circle_median_read(bytes: &[u8], readings: &mut [u16]) -> RecordAnswer
+    ensures { λ r. ⌜ ExportedRead (now (bytes .entry)) (now (readings .entry)) r (now (readings .exit)) ⌝ }
+{
+    record_answer(record::read(bytes, readings))
+}

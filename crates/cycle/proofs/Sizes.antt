@@ -1,0 +1,62 @@
+-- How large a step and a drift can be: both fit a signed number of 32 bits. Assumes nothing.
+use Prim.Native.Nat.{ℕ, suc, _+_, _*_, _^_, _≤_, _<_}
+use mathlib.Core.Bool.{true}
+use mathlib.Core.Path.{_≡_, sym}
+use mathlib.Core.List.{List, [], _∷_}
+use native.Mathlib.Omega.{arith}
+use borrow.Author.Tests.{ltb-true}
+use lib.Signed.{mag}
+use lib.IntN.{ℤ, pos, negsuc, natAbs, _+ℤ_}
+use lib.ListN.{length}
+use Rattle.lists.specs.Members.{Each}
+use Rattle.lists.proofs.First.{all-good}
+use Rattle.refusal.specs.Limits.{longestCycle}
+use Rattle.refusal.specs.Outcome.{Clear}
+use Rattle.refusal.specs.Outcome.Outcome.{accepted}
+use Rattle.refusal.proofs.Outcome.{accepted-clear, accepted-value}
+use Rattle.cycle.specs.Distance.{isReading}
+use Rattle.cycle.specs.Step.{step, drift}
+use Rattle.cycle.specs.Calls.{pairRules, rowRules, stepCall, driftCall}
+use Rattle.cycle.proofs.Accepted.{pair-clear, row-clear}
+use Rattle.cycle.proofs.DistanceLaws.{distance-half}
+use Rattle.cycle.proofs.SignedLaws.{sub-size, mag-size}
+use Rattle.cycle.proofs.StepLaws.{step-size}
+
+sum-size : (x y : ℤ) → natAbs (x +ℤ y) ≤ natAbs x + natAbs y
+sum-size (pos a) (pos b) = omega arith
+sum-size (pos a) (negsuc b) = sub-size a (suc b)
+sum-size (negsuc a) (pos b) = omega (arith, sub-size b (suc a))
+sum-size (negsuc a) (negsuc b) = omega arith
+
+-- a step of at most half a cycle for each reading
+pub drift-size : {c : ℕ} → c ≤ longestCycle → (row : List ℕ) → Each (λ y. isReading c y ≡ true) row → natAbs (drift c row) ≤ length row * 32767
+unfolding drift
+drift-size fits [] e = omega arith
+drift-size fits (a ∷ []) e = omega arith
+drift-size {c} fits (a ∷ (b ∷ row)) e =
+    let ha = ltb-true a c (e .0) in
+    let hb = ltb-true b c (e .1 .0) in
+    omega (arith, sum-size (step c a b) (drift c (b ∷ row)), step-size c a b ha hb, distance-half c a b ha hb, drift-size fits (b ∷ row) (e .1))
+
+pub drift-fits : (c : ℕ) (row : List ℕ) → Clear (rowRules c row) → mag (drift c row) < 2 ^ 31
+drift-fits c row clear =
+    let r = row-clear c row clear in
+    omega (arith, mag-size (drift c row), drift-size (r .cycle-fits) row (all-good (isReading c) row (r .good)), r .short)
+
+step-fits : (c a b : ℕ) → Clear (pairRules c a b) → mag (step c a b) < 2 ^ 31
+step-fits c a b clear =
+    let p = pair-clear c a b clear in
+    omega (arith, mag-size (step c a b), step-size c a b (p .first) (p .second), distance-half c a b (p .first) (p .second), p .cycle-fits)
+
+-- the same of what the calls were answered
+pub step-told : (c a b : ℕ) {v : ℤ} → accepted v ≡ stepCall c a b → mag v < 2 ^ 31
+unfolding stepCall
+step-told c a b {v} said =
+    rw (accepted-value (step c a b) (pairRules c a b) v (sym said))
+    (step-fits c a b (accepted-clear (step c a b) (pairRules c a b) v (sym said)))
+
+pub drift-told : (c : ℕ) (row : List ℕ) {v : ℤ} → accepted v ≡ driftCall c row → mag v < 2 ^ 31
+unfolding driftCall
+drift-told c row {v} said =
+    rw (accepted-value (drift c row) (rowRules c row) v (sym said))
+    (drift-fits c row (accepted-clear (drift c row) (rowRules c row) v (sym said)))

@@ -1,0 +1,114 @@
+/* The circle median of wake phases: the proved calls for C and C++.
+ *
+ * Every call returns, and is answered by its result or by one refusal: `number` is 0 if the call was accepted, and else
+ * the refusal's number, with its place. A refused call has changed no memory. No call allocates, keeps anything or
+ * touches anything but its arguments, so calls may run in parallel, as long as no call writes what another uses.
+ *
+ * Of each pointer, the caller must see to it that it is not NULL, also where the length is 0, that it is aligned
+ * for its type, and that as many elements as its length says may be read, or written where the pointer is not to
+ * const. Memory that a call writes may not overlap that of any other argument. Lengths count elements, not bytes.
+ *
+ * cycle is the paper's C, rows and columns its M and N, mask_rows and mask_columns its R and T.
+ *
+ *  number  why                                                                               place
+ *       1  the cycle is 0, or longer than the call takes: 65,535; 4,096 for the level engine
+ *       2  rows outside 1 to 1,024, or columns (or a row's length) outside 1 to 8,192
+ *       3  a mask side that is even, or above 255
+ *       4  half a mask side, rounded down, is above the rows or the columns
+ *       5  first is above end, or end above rows
+ *       6  the input, or the readings to write, are not rows * columns
+ *       7  an output, readings or bytes buffer is too short
+ *       8  the work memory is too short
+ *       9  a reading, or an argument, is not below the cycle                                 its index
+ *      10  the record ends within a field                                                    the field's offset
+ *      11  a tag is not the one due                                                          its offset
+ *      12  a length is not the one due                                                       its tag's offset
+ *      13  bytes follow the end field                                                        the first one's offset
+ *
+ * The place is 0 where none is given. Of several refusals the first in the order of the call's tests is told: rising
+ * for all calls but circle_median_read, which tests field by field.
+ */
+#ifndef CIRCLE_MEDIAN_H
+#define CIRCLE_MEDIAN_H
+
+#include <stddef.h>
+#include <stdint.h>
+
+#ifdef __cplusplus
+extern "C" {
+#endif
+
+typedef struct circle_median_answer {
+    uint32_t number;
+    uint64_t place;
+} circle_median_answer;
+
+/* value is 0 if the call was refused. */
+typedef struct circle_median_value_answer {
+    uint32_t number;
+    uint64_t place;
+    int64_t value;
+} circle_median_value_answer;
+
+/* All five numbers of the record are 0 if it was refused. */
+typedef struct circle_median_record_answer {
+    uint32_t number;
+    uint64_t place;
+    uint32_t cycle;
+    uint32_t rows;
+    uint32_t columns;
+    uint32_t mask_rows;
+    uint32_t mask_columns;
+} circle_median_record_answer;
+
+/* Filters rows first to end - 1 of an image by the level engine, which takes cycles up to 4,096.
+ *
+ * input has rows * columns readings, row by row; output at least as many numbers, of which those of the range are
+ * written, each at its own spot of the whole image; work at least cycle * (columns + 1) numbers, which are zero at
+ * the end. Whatever output and work held before makes no difference. 1 to 9 are tested. */
+circle_median_answer circle_median_level(
+    uint32_t cycle, uint32_t rows, uint32_t columns, uint32_t mask_rows, uint32_t mask_columns,
+    uint32_t first, uint32_t end,
+    const uint16_t *input, size_t input_length,
+    uint16_t *output, size_t output_length,
+    uint32_t *work, size_t work_length);
+
+/* The same rows by the reading engine, which takes every cycle; work needs at least
+ * mask_rows * mask_columns * (columns + 1) numbers. */
+circle_median_answer circle_median_reading(
+    uint32_t cycle, uint32_t rows, uint32_t columns, uint32_t mask_rows, uint32_t mask_columns,
+    uint32_t first, uint32_t end,
+    const uint16_t *input, size_t input_length,
+    uint16_t *output, size_t output_length,
+    uint32_t *work, size_t work_length);
+
+/* The value is the distance of ticks a and b, the shorter way around. 1 and 9 are tested, as by the next two. */
+circle_median_value_answer circle_median_distance(uint32_t cycle, uint16_t a, uint16_t b);
+
+/* The value is the signed step from a to b; half a cycle counts as forward. */
+circle_median_value_answer circle_median_step(uint32_t cycle, uint16_t a, uint16_t b);
+
+/* The value is 1 if tick p is in the slot that starts at s and is w wide, both ends included, and else 0. */
+circle_median_value_answer circle_median_slot(uint32_t cycle, uint16_t p, uint16_t s, uint16_t w);
+
+/* The value is the drift of a row: the sum of the signed steps from each reading to the next. 1, 2 and 9 are tested. */
+circle_median_value_answer circle_median_drift(uint32_t cycle, const uint16_t *row, size_t row_length);
+
+/* Writes a record to the front of bytes; the value is its length, 22 + rows * (3 + 2 * columns).
+ * 1, 2, 3, 4, 6, 7 and 9 are tested. */
+circle_median_value_answer circle_median_write(
+    uint32_t cycle, uint32_t rows, uint32_t columns, uint32_t mask_rows, uint32_t mask_columns,
+    const uint16_t *readings, size_t readings_length,
+    uint8_t *bytes, size_t bytes_length);
+
+/* Reads a record, which must fill all of bytes; its rows * columns readings stand at the front of readings. Any
+ * refusal but 5, 6 and 8 can come. */
+circle_median_record_answer circle_median_read(
+    const uint8_t *bytes, size_t bytes_length,
+    uint16_t *readings, size_t readings_length);
+
+#ifdef __cplusplus
+}
+#endif
+
+#endif
