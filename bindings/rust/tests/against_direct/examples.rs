@@ -1,0 +1,123 @@
+//! The paper's own examples, with the answers that it prints, and the mistakes that it warns of.
+
+use circle_median::Engine::{Level, Reading};
+use circle_median::{drift, filter, read, step, work_len, write, Engine, Refusal, Shape};
+
+const NONE: Refusal = Refusal { number: 0, place: 0 };
+
+fn shape(cycle: u32, rows: u32, columns: u32, mask_rows: u32, mask_columns: u32) -> Shape {
+    Shape { cycle, rows, columns, mask_rows, mask_columns }
+}
+
+/// All rows by an engine with just the memory that it needs.
+fn filtered(engine: Engine, shape: Shape, image: &[u16]) -> Result<Vec<u16>, Refusal> {
+    let mut output = vec![0; image.len()];
+    let mut work = vec![0; work_len(engine, shape)];
+    filter(engine, shape, 0..shape.rows, image, &mut output, &mut work).map(|()| output)
+}
+
+/// The number and place of a refusal.
+fn refused<T>(answer: Result<T, Refusal>) -> (u32, u64) {
+    let refusal = answer.err().unwrap_or(NONE);
+    (refusal.number, refusal.place)
+}
+
+#[test]
+fn windows_p1_to_p11() {
+    let windows: [(u32, &[u16], u16); 11] = [
+        (8, &[4, 1, 7], 1),
+        (8, &[1, 7, 4], 7),
+        (8, &[5, 3, 0, 3, 5], 3),
+        (5, &[2, 0, 3], 2),
+        (9, &[0, 3, 6], 3),
+        (8, &[0, 4, 3], 3),
+        (32, &[23, 23, 0, 9, 9], 0),
+        (48, &[0, 39, 16], 0),
+        (360, &[359, 0, 1], 0),
+        (1, &[0, 0, 0], 0),
+        (2, &[0, 1, 1], 1),
+    ];
+    for (cycle, window, chosen) in windows {
+        let size = window.len() as u32;
+        for engine in [Level, Reading] {
+            let row = filtered(engine, shape(cycle, 1, size, 1, size), window).unwrap();
+            assert_eq!(row[window.len() / 2], chosen, "{engine:?} {cycle} {window:?}");
+            let column = filtered(engine, shape(cycle, size, 1, size, 1), window).unwrap();
+            assert_eq!(column[window.len() / 2], chosen, "{engine:?} {cycle} {window:?}, upright");
+        }
+    }
+}
+
+#[test]
+fn steps_p12_and_drift() {
+    assert_eq!(step(8, 1, 5), Ok(4));
+    assert_eq!(step(8, 1, 6), Ok(-3));
+    assert_eq!(drift(8, &[1, 1, 1, 7, 7]), Ok(-2));
+    assert_eq!(drift(8, &[5]), Ok(0));
+}
+
+#[test]
+fn row_and_edges() {
+    for engine in [Level, Reading] {
+        assert_eq!(filtered(engine, shape(8, 1, 5, 1, 3), &[1, 4, 1, 7, 7]), Ok(vec![1, 1, 1, 7, 7]));
+        assert_eq!(filtered(engine, shape(8, 1, 3, 1, 3), &[5, 0, 0]).map(|row| row[0]), Ok(5));
+        assert_eq!(filtered(engine, shape(8, 1, 1, 3, 3), &[6]), Ok(vec![6]));
+        assert_eq!(filtered(engine, shape(8, 1, 200, 3, 255), &[6; 200]), Ok(vec![6; 200]));
+    }
+    assert_eq!(filtered(Level, shape(4096, 1, 1, 1, 1), &[4095]), Ok(vec![4095]));
+}
+
+#[test]
+fn refused_filters() {
+    let row = shape(8, 1, 5, 1, 3);
+    let image = [1, 4, 1, 7, 7];
+    let call = |shape, rows, input: &[u16], output: usize, work: usize| {
+        refused(filter(Level, shape, rows, input, &mut vec![0; output], &mut vec![0; work]))
+    };
+    assert_eq!(call(Shape { cycle: 4097, ..row }, 0..1, &image, 5, 48), (1, 0));
+    assert_eq!(call(Shape { rows: 0, ..row }, 0..1, &image, 5, 48), (2, 0));
+    assert_eq!(call(Shape { mask_columns: 4, ..row }, 0..1, &image, 5, 48), (3, 0));
+    assert_eq!(call(Shape { mask_columns: 257, ..row }, 0..1, &image, 5, 48), (3, 0));
+    assert_eq!(call(Shape { mask_rows: 5, ..row }, 0..1, &image, 5, 48), (4, 0));
+    assert_eq!(call(shape(8, 2, 5, 1, 3), 1..3, &image, 5, 48), (5, 0));
+    assert_eq!(call(row, 0..1, &image[..4], 5, 48), (6, 0));
+    assert_eq!(call(row, 0..1, &image, 4, 48), (7, 0));
+    assert_eq!(call(row, 0..1, &image, 5, 47), (8, 0));
+    assert_eq!(call(shape(8, 1, 2, 1, 1), 0..1, &[1, 8], 2, 24), (9, 1));
+    assert_eq!(call(row, 0..1, &image, 5, 48), (0, 0));
+}
+
+#[test]
+fn refused_records() {
+    let mut bytes = [0; 36];
+    assert_eq!(write(shape(8, 1, 5, 1, 3), &[1, 4, 1, 7, 7], &mut bytes), Ok(35));
+    let call = |bytes: &[u8]| refused(read(bytes, &mut [0; 5]));
+    assert_eq!(call(&[]), (10, 0));
+    assert_eq!(call(&[2, 0, 4]), (11, 0));
+    assert_eq!(call(&[1, 0, 3, 0, 8, 0]), (12, 0));
+    assert_eq!(call(&bytes), (13, 35));
+    assert_eq!(call(&bytes[..35]), (0, 0));
+}
+
+/// What a refusal says: its number, its place if it has one, and why.
+#[test]
+fn refusals_in_words() {
+    for number in 1..=13 {
+        let words = Refusal { number, place: 4 }.to_string();
+        let start = if number < 9 { format!("refused {number}: ") } else { format!("refused {number} at 4: ") };
+        assert!(words.starts_with(&start) && words.len() > start.len() + 10, "{words}");
+        assert!(!words.contains("no call of this library"), "{words}");
+    }
+}
+
+/// No shape is too large for the lengths to be told.
+#[test]
+fn lengths_of_any_shape() {
+    let huge = shape(u32::MAX, u32::MAX, u32::MAX, u32::MAX, u32::MAX);
+    assert_eq!(work_len(Level, huge), usize::MAX - u32::MAX as usize);
+    assert_eq!(work_len(Reading, huge), usize::MAX);
+    assert_eq!(circle_median::record_len(huge), usize::MAX);
+    assert_eq!(work_len(Reading, shape(65_535, 1024, 8192, 255, 255)), 532_749_825);
+    assert_eq!(work_len(Level, shape(4096, 1024, 8192, 255, 255)), 33_558_528);
+    assert_eq!(circle_median::record_len(shape(1, 1024, 8192, 1, 1)), 16_780_310);
+}

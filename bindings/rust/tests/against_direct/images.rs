@@ -1,0 +1,74 @@
+//! Random cycles, shapes and readings.
+
+use circle_median::Shape;
+
+use crate::random::Random;
+
+/// Readings of a cycle: anywhere, or few ticks, or parts of the cycle apart, so that many sums are equal.
+pub fn readings(random: &mut Random, cycle: u32, length: usize) -> Vec<u16> {
+    let start = random.within(0..=cycle - 1);
+    let (parts, kinds) = (random.within(1..=6), random.within(1..=4));
+    let style = random.within(0..=3);
+    let draw = |_| {
+        let tick = match style {
+            0 => random.within(0..=cycle - 1),
+            1 => start + random.within(0..=kinds),
+            2 => start + random.within(0..=kinds) * cycle / parts,
+            _ => start + random.one_of(&[0, 0, 0, 1, 2, cycle / 2, cycle - 1]),
+        };
+        (tick % cycle) as u16
+    };
+    (0..length).map(draw).collect()
+}
+
+/// Puts numbers that are not below the cycle at some places.
+pub fn spoil(random: &mut Random, cycle: u32, readings: &mut [u16]) {
+    for _ in 0..random.within(1..=3) {
+        if !readings.is_empty() {
+            let any = random.within(cycle..=65_535);
+            readings[random.index(readings.len())] = random.one_of(&[cycle, any, 65_535]) as u16;
+        }
+    }
+}
+
+/// A mask side for an axis of this size: odd, and no further than one reflection.
+pub fn side(random: &mut Random, size: u32) -> u32 {
+    let reach = if random.once_in(8) { size } else { size.min(3) };
+    2 * random.within(0..=reach) + 1
+}
+
+/// A good shape with at most so many rows and columns.
+pub fn shape(random: &mut Random, cycle: u32, rows: u32, columns: u32) -> Shape {
+    let (rows, columns) = (random.within(1..=rows), random.within(1..=columns));
+    Shape { cycle, rows, columns, mask_rows: side(random, rows), mask_columns: side(random, columns) }
+}
+
+/// Breaks one of the first four tests, by its number; `limit` is the longest cycle.
+pub fn break_shape(random: &mut Random, shape: &mut Shape, number: u32, limit: u32) {
+    let first = random.once_in(2);
+    match (number, first) {
+        (1, _) => shape.cycle = random.one_of(&[0, limit + 1, limit + 2, 65_536, 65_536 + 8, u32::MAX]),
+        (2, true) => shape.rows = random.one_of(&[0, 1025, 65_537, u32::MAX]),
+        (2, false) => shape.columns = random.one_of(&[0, 8193, 65_537, u32::MAX]),
+        (3, true) => shape.mask_rows = random.one_of(&[0, 2, 4, 256, 257, u32::MAX]),
+        (3, false) => shape.mask_columns = random.one_of(&[0, 2, 4, 256, 257, u32::MAX]),
+        (_, true) => shape.mask_rows = 2 * shape.rows.min(126) + 3,
+        (_, false) => shape.mask_columns = 2 * shape.columns.min(126) + 3,
+    }
+}
+
+/// A length that is not the one due: none, one less or one more.
+pub fn other_length(random: &mut Random, due: usize) -> usize {
+    random.one_of(&[0, due.saturating_sub(1), due + 1])
+}
+
+/// A length below one that is not 0.
+pub fn shorter(random: &mut Random, due: usize) -> usize {
+    let any = random.index(due);
+    random.one_of(&[0, any, due - 1])
+}
+
+/// The length due, or some more.
+pub fn at_least(random: &mut Random, due: usize) -> usize {
+    due + if random.once_in(2) { 0 } else { random.index(20) }
+}
