@@ -1,7 +1,7 @@
 // The bench record of document 01, "Bench record": a writer and a reader, each of which answers for
 // every input and changes no lent memory if it refuses.
+use record_head::shape_in;
 use record_read::record_verdict;
-use record_read::shape_in;
 use record_read::store_rows;
 use record_write::put_record;
 use record_write::write_verdict;

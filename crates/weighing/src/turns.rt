@@ -2,8 +2,8 @@
 // before, and its readings are weighed.
 use crate::choice::place_of;
 use crate::choice::weigh;
-use planes::build;
-use planes::carry;
+use plane_build::build;
+use plane_carry::carry;
 use planes::pad;
 use shape::Shape;
 ghost use Prim.Native.Nat.{_+_, _<_};
