@@ -1,2 +1,1 @@
-pub mod Outward
 pub mod RowLaws

@@ -1,5 +1,5 @@
 // A row of the output: the first of a range, and each later one from the row before it.
-use crate::choice::choose;
+use level_choice::choose;
 use level_sums::columns::advance;
 use level_sums::columns::first_column;
 use level_sums::columns::next_column;

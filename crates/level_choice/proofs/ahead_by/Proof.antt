@@ -1,11 +1,11 @@
--- `level::choice::ahead_by` meets its contract. Assumes nothing.
+-- `level_choice::ahead_by` meets its contract. Assumes nothing.
 use Prim.Native.Nat.{_+_, _-_}
 use mathlib.Core.Path.{sym, refl}
 use native.Mathlib.Omega.{arith}
 use borrow.Author.Needs.{needs}
 use Rattle.cycle.proofs.Ways.{mod-low, mod-high}
-use Rattle.level.proofs.choice.ahead_by.Statement.{statement}
-use Rattle.level.proofs.choice.ahead_by.Tie as tie
+use Rattle.level_choice.proofs.ahead_by.Statement.{statement}
+use Rattle.level_choice.proofs.ahead_by.Tie as tie
 
 add-if1 : tie.Need-add-if1
 add-if1 c = search needs

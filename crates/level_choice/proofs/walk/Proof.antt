@@ -1,29 +1,27 @@
--- `level::choice::choose` meets its contract. Assumes nothing.
-use Prim.Native.Nat.{ℕ, _-_, _≤_, _<_}
-use mathlib.Core.Path.{sym, _∙_, ap}
+-- `level_choice::walk` meets its contract. Assumes nothing.
+use Prim.Native.Nat.{_-_, _≤_, _<_}
+use mathlib.Core.Path.{_≡_, sym, _∙_, ap}
 use native.Mathlib.Omega.{arith}
+use native.Mathlib.Nat.{mod-lt}
 use borrow.Author.Needs.{needs}
-use Rattle.level.proofs.Outward.{Passed, tick, found-front, found-rear, passed-more, passed-all}
-use Rattle.memory.proofs.Lowest.{lowest-least, lowest-found}
+use Rattle.level_choice.proofs.Outward.{walked-front, walked-rear, walked-none, passed-more}
 use Rattle.memory.specs.Parts.{copied}
-use Rattle.level.proofs.choice.choose.Statement.{statement}
-use Rattle.level.proofs.choice.choose.Tie as tie
+use Rattle.level_choice.specs.Walk.{Passed}
+use Rattle.level_choice.proofs.walk.Statement.{statement}
+use Rattle.level_choice.proofs.walk.Tie as tie
 
 abbrev Inv-loop : tie.InvT-loop
-Inv-loop work base cycle centre least e₀ e = (e ≤ cycle) × Passed cycle centre (copied work base) least e
+Inv-loop work base cycle centre least start end e₀ e = (e ≤ end) × Passed cycle centre (copied work base) least e
 
 abbrev μ-loop : tie.MeasureT-loop
-μ-loop work base cycle centre least e₀ e = cycle - e
+μ-loop work base cycle centre least start end e₀ e = end - e
 
 -- the two ticks lie on the cycle
 at : (c : tie.After-ahead-by Inv-loop μ-loop) → c .ahead-by .result < c .before .before .before .before .args .cycle
-at c = let a = c .before .before .before .before .args
-    in omega (arith, c .ahead-by .ensures, tick (a .cycle) (a .centre) (omega arith) (c .before .before .loop .e))
+at c = rw (c .ahead-by .ensures) (mod-lt _ (omega arith))
 
 at2 : (c : tie.After-ahead-by2 Inv-loop μ-loop) → c .ahead-by2 .result < c .before .before .before .before .before .before .before .args .cycle
-at2 c =
-    let a = c .before .before .before .before .before .before .before .args in
-    omega (arith, c .ahead-by2 .ensures, tick (a .cycle) (a .centre) (omega arith) (a .cycle - c .before .before .before .before .before .loop .e))
+at2 c = rw (c .ahead-by2 .ensures) (mod-lt _ (omega arith))
 
 loop-holds : tie.Need-loop-holds Inv-loop μ-loop
 loop-holds c = search needs
@@ -45,10 +43,10 @@ returns c =
     let s = c .before .before .before .before .before .before in
     let a = s .args in
     let f = copied (a .work .now) (a .base) in
-    let low : ((q : ℕ) → q < a .cycle → a .least ≤ f q) = λ q h. omega (arith, lowest-least f (a .cycle) q h, s .pre .0) in
     let l = c .before .before .before .before .loop in
     let at-front = c .before .before .ahead-by .ensures in
-    rw at-front (found-front (a .cycle) (a .centre) (omega arith) f (a .least) low (l .e) (omega arith) (l .inv .1) (ap f (sym at-front) ∙ c .if1 .taken))
+    rw at-front (walked-front (a .cycle) (a .centre) (omega arith) f (a .least) (s .pre .0 .3) (a .end) (l .e) (omega arith) (l .inv .1)
+    (ap f (sym at-front) ∙ c .if1 .taken))
 
 sub-ahead-by : tie.Need-sub-ahead-by Inv-loop μ-loop
 sub-ahead-by c = search needs
@@ -70,11 +68,10 @@ returns-2 c =
     let s = c .before .before .before .before .before .before .before .before .before in
     let a = s .args in
     let f = copied (a .work .now) (a .base) in
-    let low : ((q : ℕ) → q < a .cycle → a .least ≤ f q) = λ q h. omega (arith, lowest-least f (a .cycle) q h, s .pre .0) in
     let l = c .before .before .before .before .before .before .before .loop in
     let at-front = c .before .before .before .before .before .ahead-by .ensures in
     let at-rear = c .before .before .ahead-by2 .ensures in
-    rw at-rear (found-rear (a .cycle) (a .centre) (omega arith) f (a .least) low (l .e) (omega arith) (l .inv .1)
+    rw at-rear (walked-rear (a .cycle) (a .centre) (omega arith) f (a .least) (s .pre .0 .3) (a .end) (l .e) (omega arith) (l .inv .1)
     (λ g. c .before .before .before .if1 .left (ap f at-front ∙ g)) (ap f (sym at-rear) ∙ c .if2 .taken))
 
 add-e : tie.Need-add-e Inv-loop μ-loop
@@ -88,12 +85,11 @@ loop-again c =
     let s = c .before .before .before .before .before .before .before .before .before in
     let a = s .args in
     let f = copied (a .work .now) (a .base) in
-    let low : ((q : ℕ) → q < a .cycle → a .least ≤ f q) = λ q h. omega (arith, lowest-least f (a .cycle) q h, s .pre .0) in
     let l = c .before .before .before .before .before .before .before .loop in
     let at-front = c .before .before .before .before .before .ahead-by .ensures in
     let at-rear = c .before .before .ahead-by2 .ensures in (
       omega arith,
-      passed-more (a .cycle) (a .centre) (omega arith) f (a .least) low (l .e) (l .inv .1)
+      passed-more (a .cycle) (a .centre) (omega arith) f (a .least) (s .pre .0 .3) (l .e) (l .inv .1)
           (λ g. c .before .before .before .if1 .left (ap f at-front ∙ g)) (λ g. c .if2 .left (ap f at-rear ∙ g)),
     )
 
@@ -102,13 +98,12 @@ returns-3 c =
     let s = c .before .before .before in
     let a = s .args in
     let f = copied (a .work .now) (a .base) in
-    let low : ((q : ℕ) → q < a .cycle → a .least ≤ f q) = λ q h. omega (arith, lowest-least f (a .cycle) q h, s .pre .0) in
     let l = c .before .loop in
-    let r = lowest-found f (a .cycle) (omega arith) (s .pre .1) in
-    absurd (passed-all (a .cycle) (a .centre) (omega arith) f (a .least) low (l .e) (r .0) (omega arith) (l .inv .1) (r .1) (r .2 ∙ sym (s .pre .0 .3)))
+    let e : l .e ≡ a .end = omega arith in
+    walked-none (a .cycle) (a .centre) (omega arith) f (a .least) (s .pre .0 .3) (a .end) (rw e at (l .inv .1))
 
-pub choose-spec : {M : Type 1} → statement M
-choose-spec =
+pub walk-spec : {M : Type 1} → statement M
+walk-spec =
     tie.close
     (tie.spec
     Inv-loop

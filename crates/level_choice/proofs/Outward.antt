@@ -1,16 +1,20 @@
--- Going outward from the centre, ahead before behind, the first tick with the least sum is the chosen one. Assumes nothing.
-use Prim.Native.Nat.{ℕ, _+_, _-_, _%_, _≤_, _<_}
+-- Going outward from the centre, ahead before behind, the first tick with the least sum is the chosen one, and so is the only one. Assumes nothing.
+use Prim.Native.Nat.{ℕ, _+_, _-_, _%_, _^_, _≤_, _<_}
 use mathlib.Core.Path.{_≡_, refl, ap, sym, _∙_}
 use mathlib.Core.Logic.{_⊎_, inl, inr, ⊎-elim}
 use native.Mathlib.Omega.{arith}
 use native.Mathlib.Decide.{decLt}
 use native.Mathlib.Nat.{mod-lt}
+use Rattle.lists.specs.Members.{In}
 use Rattle.cycle.specs.Distance.{distance}
 use Rattle.cycle.proofs.DistanceLaws.{distance-half}
 use Rattle.cycle.proofs.Ways.{Way, way-mod, mod-way, way-back, distance-way}
 use Rattle.median.specs.Choice.{candidates, Chosen}
 use Rattle.median.proofs.Rank.{reached}
 use Rattle.median.proofs.Choice.{candidate, candidate-below}
+use Rattle.memory.specs.Memory.{lowest}
+use Rattle.memory.proofs.Lowest.{lowest-least, lowest-found}
+use Rattle.level_choice.specs.Walk.{Passed, Walked}
 
 -- the ticks e ahead of a and e behind it
 abbrev pub front : ℕ → ℕ → ℕ → ℕ
@@ -19,12 +23,8 @@ front c a e = (a + e) % c
 abbrev pub rear : ℕ → ℕ → ℕ → ℕ
 rear c a e = (a + (c - e)) % c
 
--- no tick nearer to a than e has the least sum
-abbrev pub Passed : ℕ → ℕ → (ℕ → ℕ) → ℕ → ℕ → Type 0
-Passed c a sum least e = (q : ℕ) → q < c → distance c a q < e → sum q ≡ least → ⊥
-
 module _ (c a : ℕ) (ha : a < c) where
-  pub tick : (e : ℕ) → (a + e) % c < c
+  tick : (e : ℕ) → (a + e) % c < c
   tick e = mod-lt (a + e) (omega arith)
 
   front-near : (e : ℕ) → e ≤ c → distance c a (front c a e) ≤ e
@@ -40,7 +40,10 @@ module _ (c a : ℕ) (ha : a < c) where
       (λ (w : Way c q a (distance c a q)). inr (sym (way-mod h (way-back (omega (arith, distance-half c a q ha h)) w))))
       (reached c a q ha h)
 
-  module _ (sum : ℕ → ℕ) (least : ℕ) (low : (q : ℕ) → q < c → least ≤ sum q) where
+  module _ (sum : ℕ → ℕ) (least : ℕ) (is-lowest : least ≡ lowest sum c) where
+    low : (q : ℕ) → q < c → least ≤ sum q
+    low q h = omega (arith, lowest-least sum c q h)
+
     -- a tick with the least sum, no farther than e, is chosen if it is the one ahead or the one ahead has not the least sum
     found : (e p : ℕ) → p < c → Passed c a sum least e → distance c a p ≤ e → sum p ≡ least
         → ((q : ℕ) → q < c → sum q ≡ least → distance c a q ≡ e → (q ≡ p → ⊥) → p ≡ front c a e) → Chosen c a sum (candidates c) p
@@ -61,10 +64,7 @@ module _ (c a : ℕ) (ha : a < c) where
         at : distance c a p ≡ e
         at = omega (arith, far p hp is)
 
-    pub found-front : (e : ℕ) → e ≤ c → Passed c a sum least e → sum (front c a e) ≡ least → Chosen c a sum (candidates c) (front c a e)
-    found-front e h passed is = found e (front c a e) (tick e) passed (front-near e h) is (λ q g s d ne. refl)
-
-    pub found-rear : (e : ℕ) → e ≤ c → Passed c a sum least e → (sum (front c a e) ≡ least → ⊥) → sum (rear c a e) ≡ least
+    found-rear : (e : ℕ) → e ≤ c → Passed c a sum least e → (sum (front c a e) ≡ least → ⊥) → sum (rear c a e) ≡ least
         → Chosen c a sum (candidates c) (rear c a e)
     found-rear e h passed no-front is = found e (rear c a e) (tick (c - e)) passed (rear-near e h) is third
       where
@@ -74,8 +74,20 @@ module _ (c a : ℕ) (ha : a < c) where
             (λ (r : q ≡ rear c a (distance c a q)). absurd (ne (r ∙ ap (rear c a) d)))
             (two q g)
 
-    pub passed-none : Passed c a sum least 0
-    passed-none q h l s = omega arith
+    -- what a walk up to step n answers, at step e and at its end
+    walked-tick : (n p : ℕ) → p < c → Chosen c a sum (candidates c) p → Walked c a sum least n p
+    walked-tick n p h x = record { found = λ l. x; passed = λ l. absurd (omega arith) }
+
+    pub walked-front : (n e : ℕ) → e ≤ c → Passed c a sum least e → sum (front c a e) ≡ least → Walked c a sum least n (front c a e)
+    walked-front n e h passed is =
+        walked-tick n (front c a e) (tick e) (found e (front c a e) (tick e) passed (front-near e h) is (λ q g s d ne. refl))
+
+    pub walked-rear : (n e : ℕ) → e ≤ c → Passed c a sum least e → (sum (front c a e) ≡ least → ⊥) → sum (rear c a e) ≡ least
+        → Walked c a sum least n (rear c a e)
+    walked-rear n e h passed no-front is = walked-tick n (rear c a e) (tick (c - e)) (found-rear e h passed no-front is)
+
+    pub walked-none : (n : ℕ) → Passed c a sum least n → Walked c a sum least n c
+    walked-none n passed = record { found = λ l. absurd (omega arith); passed = λ l. passed }
 
     pub passed-more : (e : ℕ) → Passed c a sum least e → (sum (front c a e) ≡ least → ⊥) → (sum (rear c a e) ≡ least → ⊥) → Passed c a sum least (e + 1)
     passed-more e passed f r q h l s = go (decLt (distance c a q) e)
@@ -89,6 +101,33 @@ module _ (c a : ℕ) (ha : a < c) where
             (λ (x : q ≡ rear c a (distance c a q)). r (ap sum (sym (x ∙ ap (rear c a) d)) ∙ s))
             (two q h)
 
-    -- so one is met before the search ends
-    pub passed-all : (e q : ℕ) → c ≤ e → Passed c a sum least e → q < c → sum q ≡ least → ⊥
-    passed-all e q h passed g s = passed q g (omega (arith, distance-half c a q ha g)) s
+    module _ (small : (q : ℕ) → q < c → sum q < 2 ^ 32) where
+      -- some tick has the least sum
+      some : (q : ℕ) × (q < c) × (sum q ≡ least)
+      some = let x = lowest-found sum c (omega arith) small in (x .0, x .1, x .2 ∙ sym is-lowest)
+
+      -- so a walk over all steps meets one
+      pub walked-all : (r : ℕ) → Walked c a sum least c r → Chosen c a sum (candidates c) r
+      walked-all r x = go (decLt r c)
+        where
+          go : Dec (r < c) → Chosen c a sum (candidates c) r
+          go (yes l) = x .found l
+          go (no l) = absurd (x .passed (omega arith) (some .0) (some .1) (omega (arith, distance-half c a (some .0) ha (some .1))) (some .2))
+
+      -- and p is chosen if no other tick has it
+      pub found-only : (p : ℕ) → ((q : ℕ) → q < c → sum q ≡ least → q ≡ p) → Chosen c a sum (candidates c) p
+      found-only p only = record {
+        candidate = candidate c p (omega (arith, some .1, at));
+        least = λ q i. omega (arith, low q (candidate-below c q i), is);
+        nearest = λ q i s. omega (arith, ap (distance c a) (same q i s));
+        ahead = λ q i s d ne. absurd (ne (same q i s));
+      }
+        where
+          at : some .0 ≡ p
+          at = only (some .0) (some .1) (some .2)
+
+          is : sum p ≡ least
+          is = ap sum (sym at) ∙ some .2
+
+          same : (q : ℕ) → In q (candidates c) → sum q ≡ sum p → q ≡ p
+          same q i s = only q (candidate-below c q i) (s ∙ is)
