@@ -41,7 +41,7 @@ abbrev pub filterTold : FilterAnswer → Outcome Unit
 filterTold Filtered = accepted tt
 filterTold (Refused r) = refusal r
 
--- the output with rows first to end - 1 filtered: "row i's phases at i·N + j", the chosen ones; nothing else in it changes
+-- the output with rows first to end - 1 filtered, each chosen phase at its own spot i·N + j; nothing else in it changes
 abbrev pub filteredRows : Shape → ℕ → ℕ → List ℕ → List ℕ → List ℕ
 filteredRows s first end image output = written (phaseAt s image) (first * s .columns) (end * s .columns) output
 
