@@ -36,6 +36,10 @@ readingRule c readings = rule (ltb (firstBad (isReading c) readings) (length rea
 abbrev pub pairRules : ℕ → ℕ → ℕ → List Rule
 pairRules c a b = cycleRules longestCycle c ++ (tickRule c a 0 ∷ tickRule c b 1 ∷ [])
 
+-- the tests of slot
+abbrev pub slotRules : ℕ → ℕ → ℕ → ℕ → List Rule
+slotRules c p s w = pairRules c p s ++ (tickRule c w 2 ∷ [])
+
 -- the tests of drift: 1, 2 on the length of the row, 9
 abbrev pub rowRules : ℕ → List ℕ → List Rule
 rowRules c row =
@@ -49,7 +53,7 @@ unfoldable pub stepCall : ℕ → ℕ → ℕ → Outcome ℤ
 stepCall c a b = firstDue (pairRules c a b) (step c a b)
 
 unfoldable pub slotCall : ℕ → ℕ → ℕ → ℕ → Outcome Bool
-slotCall c p s w = firstDue (pairRules c p s ++ (tickRule c w 2 ∷ [])) (inSlot c s w p)
+slotCall c p s w = firstDue (slotRules c p s w) (inSlot c s w p)
 
 unfoldable pub driftCall : ℕ → List ℕ → Outcome ℤ
 driftCall c row = firstDue (rowRules c row) (drift c row)

@@ -33,9 +33,12 @@ imageRules s room first end image output work =
     rowsRules (s .rows) first end
     ++ (inputRule (area s) (length image) ∷ bufferRule (area s) output ∷ workRule room work ∷ readingRule (s .cycle) image ∷ [])
 
--- the tests of a filter in rising order, and its answer
+-- the tests of a filter, and its answer
+abbrev pub filterRules : Engine → Shape → ℕ → ℕ → List ℕ → ℕ → ℕ → List Rule
+filterRules e s first end image output work = shapeRules (limit e) s ++ imageRules s (need e s) first end image output work
+
 unfoldable pub filterCall : Engine → Shape → ℕ → ℕ → List ℕ → ℕ → ℕ → Outcome Unit
-filterCall e s first end image output work = firstDue (shapeRules (limit e) s ++ imageRules s (need e s) first end image output work) tt
+filterCall e s first end image output work = firstDue (filterRules e s first end image output work) tt
 
 abbrev pub filterTold : FilterAnswer → Outcome Unit
 filterTold Filtered = accepted tt

@@ -11,9 +11,9 @@ use Rattle.window.specs.Window.{padded, stretch, block, window}
 use Rattle.window.specs.Ready.{Ready}
 
 -- the image has passed its tests, and the work memory has the numbers that the engine needs
-pub record Given (s : Shape) (image : List ℕ) (length : ℕ) : Type 0 where
+pub record Given (s : Shape) (image : List ℕ) (work : ℕ) : Type 0 where
   pub ready : Ready levelCycle s image
-  pub room : s .columns * s .cycle + s .cycle ≤ length
+  pub room : s .columns * s .cycle + s .cycle ≤ work
 
 -- the sum at tick q of the window of row i and column j
 abbrev pub windowSum : Shape → List ℕ → ℕ → ℕ → ℕ → ℕ

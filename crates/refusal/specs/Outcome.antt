@@ -1,6 +1,6 @@
 -- What a call is answered: the first refusal that is due, in the order in which the call tests, or its result.
 -- Document 01, "Refused calls": each refusal comes if its condition holds and none before it does, and never otherwise.
-use Prim.Native.Nat.{ℕ}
+use Prim.Native.Nat.{ℕ, _≤_, _<_}
 use mathlib.Core.Path.{_≡_}
 use mathlib.Core.Bool.{Bool, false, cond}
 use mathlib.Core.List.{List, [], _∷_}
@@ -33,6 +33,18 @@ firstDue (r ∷ rs) result = cond (r .due) (refused (r .number) (r .place)) (fir
 abbrev pub Clear : List Rule → Type 0
 Clear = Each (λ r. r .due ≡ false)
 
+-- "test in rising order of number": no rule has a number below n, nor below that of a rule before it
+abbrev pub RisingFrom : ℕ → List Rule → Type 0
+RisingFrom n [] = Unit
+RisingFrom n (r ∷ rs) = (n ≤ r .number) × RisingFrom (r .number) rs
+
+abbrev pub Rising : List Rule → Type 0
+Rising = RisingFrom 0
+
+-- no rule has the number 0, which is that of an accepted call
+abbrev pub Numbered : List Rule → Type 0
+Numbered = Each (λ r. 0 < r .number)
+
 -- a refusal as an outcome
 abbrev pub refusal : {A : Type 0} → Refusal → Outcome A
 refusal r = refused (numberOf r) (placeOf r)
@@ -46,3 +58,13 @@ verdict (Refused r) = refusal r
 abbrev pub leaves : {A B : Type 0} → Outcome A → B → B → B
 leaves (accepted result) new old = new
 leaves (refused number place) new old = old
+
+-- an outcome after another: the second call is made with the result of the first, and only if that was accepted
+abbrev pub andThen : {A B : Type 0} → Outcome A → (A → Outcome B) → Outcome B
+andThen (accepted result) next = next result
+andThen (refused number place) next = refused number place
+
+-- what lent memory holds after a call, where its new contents depend on the result
+abbrev pub after : {A B : Type 0} → Outcome A → (A → B) → B → B
+after (accepted result) new old = new result
+after (refused number place) new old = old

@@ -42,10 +42,10 @@ rowsRules m first end = rule (ltb end first) 5 0 ∷ rule (ltb m end) 5 0 ∷ []
 
 -- 6: the length of the input; 7: an output, readings or byte buffer; 8: the work memory
 abbrev pub inputRule : ℕ → ℕ → Rule
-inputRule due length = rule (not (eqb length due)) 6 0
+inputRule due size = rule (not (eqb size due)) 6 0
 
 abbrev pub bufferRule : ℕ → ℕ → Rule
-bufferRule need length = rule (ltb length need) 7 0
+bufferRule need room = rule (ltb room need) 7 0
 
 abbrev pub workRule : ℕ → ℕ → Rule
-workRule need length = rule (ltb length need) 8 0
+workRule need room = rule (ltb room need) 8 0
