@@ -40,6 +40,13 @@ filterRules e s first end image output work = shapeRules (limit e) s ++ imageRul
 unfoldable pub filterCall : Engine → Shape → ℕ → ℕ → List ℕ → ℕ → ℕ → Outcome Unit
 filterCall e s first end image output work = firstDue (filterRules e s first end image output work) tt
 
+-- those of them that do not look at the readings and at the range: whether a good image of that shape is filtered
+abbrev pub roomRules : Engine → Shape → ℕ → ℕ → List Rule
+roomRules e s output work = shapeRules (limit e) s ++ (bufferRule (area s) output ∷ workRule (need e s) work ∷ [])
+
+unfoldable pub roomCall : Engine → Shape → ℕ → ℕ → Outcome Unit
+roomCall e s output work = firstDue (roomRules e s output work) tt
+
 abbrev pub filterTold : FilterAnswer → Outcome Unit
 filterTold Filtered = accepted tt
 filterTold (Refused r) = refusal r

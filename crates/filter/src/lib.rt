@@ -11,6 +11,7 @@ use refusal::Refusal;
 use refusal::Verdict;
 use shape::Shape;
 use verdicts::judge;
+pub use verdicts::room_verdict;
 ghost use Rattle.filter.specs.declared.Engine.the-variants.{Level, Reading};
 ghost use Rattle.filter.specs.Calls.{Call};
 

@@ -9,7 +9,9 @@ use shape::Shape;
 use shape::shape_verdict;
 ghost use mathlib.Core.Path.{_≡_};
 ghost use Rattle.refusal.specs.Outcome.{firstDue, verdict};
-ghost use Rattle.filter.specs.Calls.{imageRules, filterCall};
+ghost use mathlib.Core.List.{[], _∷_};
+ghost use Rattle.shape.specs.Rules.{area, bufferRule, workRule};
+ghost use Rattle.filter.specs.Calls.{imageRules, roomCall, filterCall};
 
 // 5 to 9, for an engine that needs so many numbers of work memory.
 fn image_verdict(
@@ -40,6 +42,29 @@ fn image_verdict(
         return Verdict::Refused(Refusal::Work);
     }
     reading_verdict(shape.cycle, input)
+}
+
+// 7 and 8, for an engine that needs so many numbers of work memory.
+fn memory_verdict(shape: Shape, need: usize, output: usize, work: usize) -> Verdict
+    ensures { λ r. ⌜ verdict r ≡ firstDue (bufferRule (area shape) output ∷ workRule need work ∷ []) tt ⌝ }
+{
+    if output < (shape.rows as usize) * (shape.columns as usize) {
+        return Verdict::Refused(Refusal::Buffer);
+    }
+    if work < need {
+        return Verdict::Refused(Refusal::Work);
+    }
+    Verdict::Passed
+}
+
+// Whether an engine filters a good image of that shape, with so much output and work memory: 1 to 4, 7, 8.
+pub fn room_verdict(engine: Engine, shape: Shape, output: usize, work: usize) -> Verdict
+    ensures { λ r. ⌜ verdict r ≡ roomCall engine shape output work ⌝ }
+{
+    match shape_verdict(limit_of(engine), shape) {
+        Verdict::Refused(f) => Verdict::Refused(f),
+        Verdict::Passed => memory_verdict(shape, need_of(engine, shape), output, work),
+    }
 }
 
 // All tests of a call of an engine.

@@ -100,7 +100,7 @@ fn next_row(shape: Shape, image: &[u16], work: &mut [u32], table: &[u32], i: usi
 }
 
 // The rows from first up to end of the output, each lent in its turn; the work memory past the need stays.
-pub fn fill(
+fn each_row(
     shape: Shape,
     first: usize,
     end: usize,
@@ -128,4 +128,25 @@ pub fn fill(
         next_row(shape, image, work, &table, i, &mut output[a..b]);
         i += 1;
     }
+}
+
+// The same, called at two places. A function that is called at one place only is inlined there, and its
+// local memory with it: the table would then stand in the frame of a call that is refused, too.
+pub fn fill(
+    shape: Shape,
+    first: usize,
+    end: usize,
+    image: &[u16],
+    output: &mut [u16],
+    work: &mut [u32],
+)
+    requires { ⌜ Given shape (now image) (length (now work)) ⌝ }
+    requires { ⌜ (first ≤ end) × (end ≤ shape .rows) × (area shape ≤ length (now output)) ⌝ }
+    ensures { λ _. ⌜ now (output .exit) ≡ written (phaseAt shape (now (image .entry))) (first * shape .columns) (end * shape .columns) (now (output .entry)) ⌝ }
+    ensures { λ _. ⌜ Outside (now (work .entry)) (now (work .exit)) 0 (shape .columns * shape .cycle + shape .cycle) ⌝ }
+{
+    if first == 0 {
+        return each_row(shape, 0, end, image, output, work);
+    }
+    each_row(shape, first, end, image, output, work)
 }

@@ -76,7 +76,7 @@ fn each_row(
 }
 
 // The rows from first up to end of the output; the work memory past the need stays.
-pub fn fill(
+fn with_lines(
     shape: Shape,
     first: usize,
     end: usize,
@@ -116,4 +116,25 @@ pub fn fill(
         &mut best,
         &mut kept,
     );
+}
+
+// The same, called at two places. A function that is called at one place only is inlined there, and its
+// local memory with it: the lines would then stand in the frame of a call that is refused, too.
+pub fn fill(
+    shape: Shape,
+    first: usize,
+    end: usize,
+    image: &[u16],
+    output: &mut [u16],
+    work: &mut [u32],
+)
+    requires { ⌜ Given shape (now image) (length (now work)) ⌝ }
+    requires { ⌜ (first ≤ end) × (end ≤ shape .rows) × (area shape ≤ length (now output)) ⌝ }
+    ensures { λ _. ⌜ now (output .exit) ≡ written (phaseAt shape (now (image .entry))) (first * shape .columns) (end * shape .columns) (now (output .entry)) ⌝ }
+    ensures { λ _. ⌜ Outside (now (work .entry)) (now (work .exit)) 0 (need shape) ⌝ }
+{
+    if first == 0 {
+        return with_lines(shape, 0, end, image, output, work);
+    }
+    with_lines(shape, first, end, image, output, work)
 }

@@ -1,5 +1,5 @@
 // The bench record of document 01, "Bench record": a writer and a reader, each of which answers for
-// every input and changes no lent memory if it refuses.
+// every input and changes no lent memory if it refuses. `look` is the reader's answer without the reading.
 use record_head::shape_in;
 use record_read::record_verdict;
 use record_read::store_rows;
@@ -8,7 +8,9 @@ use record_write::write_verdict;
 use refusal::Refusal;
 use refusal::Verdict;
 use shape::Shape;
-ghost use Rattle.record.specs.Calls.{Writes, Reads};
+ghost use mathlib.Core.Path.{_≡_};
+ghost use Rattle.record_format.specs.Reading.{readCall};
+ghost use Rattle.record.specs.Calls.{readTold, Writes, Reads};
 
 pub enum ReadAnswer {
     Read(Shape),
@@ -31,15 +33,25 @@ pub fn write(shape: Shape, readings: &[u16], bytes: &mut [u8]) -> WriteAnswer
     }
 }
 
+// What the reader answers with room for that many readings; nothing is stored.
+pub fn look(bytes: &[u8], room: usize) -> ReadAnswer
+    ensures { λ r. ⌜ readTold r ≡ readCall (now (bytes .entry)) room ⌝ }
+{
+    match record_verdict(bytes, room) {
+        Verdict::Refused(f) => ReadAnswer::Refused(f),
+        Verdict::Passed => ReadAnswer::Read(shape_in(bytes)),
+    }
+}
+
 // Reads a record: all of it is tested before its readings are stored at the front of the buffer.
 pub fn read(bytes: &[u8], readings: &mut [u16]) -> ReadAnswer
     ensures { λ r. ⌜ Reads (now (bytes .entry)) (now (readings .entry)) r (now (readings .exit)) ⌝ }
 {
-    match record_verdict(bytes, readings.len()) {
-        Verdict::Refused(f) => ReadAnswer::Refused(f),
-        Verdict::Passed => {
+    match look(bytes, readings.len()) {
+        ReadAnswer::Refused(f) => ReadAnswer::Refused(f),
+        ReadAnswer::Read(shape) => {
             store_rows(bytes, readings);
-            ReadAnswer::Read(shape_in(bytes))
+            ReadAnswer::Read(shape)
         }
     }
 }

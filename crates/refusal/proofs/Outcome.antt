@@ -1,7 +1,7 @@
 -- Laws of `firstDue`: a call is accepted exactly if no test is due, and refused exactly by the first that is. Assumes nothing.
 use Prim.Native.Nat.{ℕ}
 use mathlib.Core.Path.{_≡_, refl, ap, sym, _∙_}
-use mathlib.Core.Bool.{Bool, true, false}
+use mathlib.Core.Bool.{Bool, true, false, cond}
 use mathlib.Core.List.{List, [], _∷_, _++_, append-assoc}
 use native.Mathlib.Omega.{arith}
 use borrow.Author.Tests.{lt-ltb, le-ltb, le-leb, lt-leb, eq-eqb, ne-eqb}
@@ -63,6 +63,12 @@ module _ {A : Type 0} (v : A) where
   pub after-clear : (xs ys : List Rule) → Clear xs → firstDue (xs ++ ys) v ≡ firstDue ys v
   after-clear [] ys c = refl
   after-clear (x ∷ xs) ys c = skip v x (xs ++ ys) (c .0) ∙ after-clear xs ys (c .1)
+
+  -- tests that come out alike, after others
+  pub after-same : (xs ys zs : List Rule) → firstDue ys v ≡ firstDue zs v → firstDue (xs ++ ys) v ≡ firstDue (xs ++ zs) v
+  unfolding firstDue
+  after-same [] ys zs e = e
+  after-same (x ∷ xs) ys zs e = ap (λ (o : Outcome A). cond (x .due) (refused (x .number) (x .place)) o) (after-same xs ys zs e)
 
   pub due-refused : {rs : List Rule} {n k : ℕ} → Refuses rs n k → firstDue rs v ≡ refused n k
   due-refused r =

@@ -21,9 +21,15 @@ laid-past : (t : List ℕ) (at : ℕ) (bytes : List ℕ) → length t ≤ at + l
 unfolding laid
 laid-past t at bytes h = rw (drop-of-length-le t h, append-nil)
 
-length-laid : (t : List ℕ) (at : ℕ) (bytes : List ℕ) → at ≤ length t → length (laid t at bytes) ≡ length t
+length-laid : (t : List ℕ) (at : ℕ) (bytes : List ℕ) → length (laid t at bytes) ≡ length t
 unfolding laid
-length-laid t at bytes room = simp (length-append, length-take, length-drop) (omega arith)
+length-laid t at bytes = simp (length-append, length-take, length-drop) (omega arith)
+
+-- nothing is laid past the end
+laid-beyond : (t : List ℕ) (at : ℕ) (bytes : List ℕ) → length t ≤ at → laid t at bytes ≡ t
+laid-beyond t at bytes h =
+    let e : length t - at ≡ 0 = omega arith in
+    laid-past t at bytes (omega arith) ∙ rw (e, append-nil) (take-all at t h)
 
 -- what is laid after a front leaves the front
 laid-behind : (front rest more : List ℕ) (n : ℕ) → length front ≡ n
@@ -46,20 +52,20 @@ laid-twice t at bytes more h =
     ap (λ (l : List ℕ). laid l n more) split ∙ laid-behind (take at t ++ bytes) (drop n t) more n front
     ∙ rw (left, past, take-append-add bytes more (length (drop n t)), ← (drop-drop (length more) n t)) (simp append-assoc)
 
-laid-end : (t : List ℕ) (at : ℕ) (bytes more : List ℕ) → at ≤ length t → length t ≤ at + length bytes
-    → laid (laid t at bytes) (length t) more ≡ laid t at (bytes ++ more)
-laid-end t at bytes more room h =
-    let none = laid-behind (laid t at bytes) [] more (length t) (length-laid t at bytes room) in
-    simp (append-nil, drop-nil) at none ∙ laid-past t at bytes h
+laid-end : (t : List ℕ) (at : ℕ) (bytes more : List ℕ) → length t ≤ at + length bytes
+    → laid (laid t at bytes) (at + length bytes) more ≡ laid t at (bytes ++ more)
+laid-end t at bytes more h =
+    laid-beyond (laid t at bytes) (at + length bytes) more (omega (arith, length-laid t at bytes)) ∙ laid-past t at bytes h
     ∙ sym (laid-past t at (bytes ++ more) (omega (arith, length-append bytes more)) ∙ rw (take-append-le (length t - at) bytes more (omega arith)))
 
-module _ {t : List ℕ} {at : ℕ} (room : at ≤ length t) where
+module _ {t : List ℕ} {at : ℕ} where
   -- nothing is laid
   pub laid-none : Laid t at [] at t
-  laid-none = record {
-    memory = sym (laid-inside t at [] (omega arith) ∙ rw add-zero (take-append-drop at t));
-    after = omega arith;
-  }
+  laid-none = record { memory = sym (none (decLe at (length t))); after = omega arith }
+    where
+      none : Dec (at ≤ length t) → laid t at [] ≡ t
+      none (yes h) = laid-inside t at [] (omega arith) ∙ rw add-zero (take-append-drop at t)
+      none (no h) = laid-beyond t at [] (omega arith)
 
   -- one byte is laid, or there is no room for it
   pub laid-one : (byte : ℕ) → at < length t → Laid t at (byte ∷ []) (at + 1) (set t at byte)
@@ -68,42 +74,28 @@ module _ {t : List ℕ} {at : ℕ} (room : at ≤ length t) where
     after = omega arith;
   }
 
-  pub laid-full : (byte : ℕ) → length t ≤ at → Laid t at (byte ∷ []) at t
-  laid-full byte h =
-      let e : length t - at ≡ 0 = omega arith in
-      record {
-        memory = sym (laid-past t at (byte ∷ []) (omega arith) ∙ rw (e, append-nil) (take-all at t h));
-        after = omega arith;
-      }
+  pub laid-full : (byte : ℕ) → length t ≤ at → Laid t at (byte ∷ []) (at + 1) t
+  laid-full byte h = record { memory = sym (laid-beyond t at (byte ∷ []) h); after = omega arith }
 
   module _ {bytes : List ℕ} {next : ℕ} {t₁ : List ℕ} (l : Laid t at bytes next t₁) where
-    -- memory stays as long as it was, and the next place is within it
+    -- memory stays as long as it was
     pub laid-length : length t₁ ≡ length t
-    laid-length = rw (l .memory) (length-laid t at bytes room)
-
-    pub laid-room : next ≤ length t₁
-    laid-room = omega (arith, l .after, laid-length)
+    laid-length = rw (l .memory) (length-laid t at bytes)
 
     -- more is laid after it
     pub laid-more : {more : List ℕ} {then : ℕ} {t₂ : List ℕ} → Laid t₁ next more then t₂ → Laid t at (bytes ++ more) then t₂
     laid-more {more} {then} {t₂} m = record {
-      memory = m .memory ∙ ap (λ (s : List ℕ). laid s next more) (l .memory) ∙ joined (decLe (at + length bytes) (length t));
-      after = omega (arith, l .after, m .after, laid-length, length-append bytes more);
+      memory = m .memory ∙ ap (λ (s : List ℕ). laid s next more) (l .memory) ∙ rw (l .after) (joined (decLe (at + length bytes) (length t)));
+      after = omega (arith, l .after, m .after, length-append bytes more);
     }
       where
-        joined : Dec (at + length bytes ≤ length t) → laid (laid t at bytes) next more ≡ laid t at (bytes ++ more)
-        joined (yes h) =
-            let e : next ≡ at + length bytes = omega (arith, l .after) in
-            rw e (laid-twice t at bytes more h)
-        joined (no h) =
-            let e : next ≡ length t = omega (arith, l .after) in
-            rw e (laid-end t at bytes more room (omega arith))
+        joined : Dec (at + length bytes ≤ length t) → laid (laid t at bytes) (at + length bytes) more ≡ laid t at (bytes ++ more)
+        joined (yes h) = laid-twice t at bytes more h
+        joined (no h) = laid-end t at bytes more (omega arith)
 
 -- from the start on, where there is room for all of it
-pub laid-front : {t bytes : List ℕ} {next : ℕ} {t₁ : List ℕ} → Laid t 0 bytes next t₁ → length bytes ≤ length t
-    → (t₁ ≡ bytes ++ drop (length bytes) t) × (next ≡ length bytes)
-laid-front {t} {bytes} l h =
-    (l .memory ∙ laid-inside t 0 bytes (omega arith) ∙ rw zero-add, omega (arith, l .after))
+pub laid-front : {t bytes : List ℕ} {next : ℕ} {t₁ : List ℕ} → Laid t 0 bytes next t₁ → length bytes ≤ length t → t₁ ≡ bytes ++ drop (length bytes) t
+laid-front {t} {bytes} l h = l .memory ∙ laid-inside t 0 bytes (omega arith) ∙ rw zero-add
 
 -- a number below 10 ^ (k + 1) has at most k + 1 digits, and none has more than 20
 digits-short : (f n k : ℕ) → n < 10 ^ (k + 1) → length (digits f n) ≤ k + 1
@@ -137,3 +129,7 @@ decimal-most n = digits-most 20 n
 pub signed-short : (z : ℤ) (k : ℕ) → natAbs z < 10 ^ (k + 1) → length (signed z) ≤ k + 2
 signed-short (pos n) k h = omega (arith, decimal-short n k h)
 signed-short (negsuc n) k h = omega (arith, decimal-short (suc n) k h)
+
+pub signed-most : (z : ℤ) → length (signed z) ≤ 21
+signed-most (pos n) = omega (arith, decimal-most n)
+signed-most (negsuc n) = omega (arith, decimal-most (suc n))

@@ -1,5 +1,5 @@
 -- Text as bytes, each a number: decimal numbers as the bench sheet has them, and text that is laid into lent memory piece by piece.
-use Prim.Native.Nat.{ℕ, zero, suc, _+_, _-_, _/_, _%_, min}
+use Prim.Native.Nat.{ℕ, zero, suc, _+_, _-_, _/_, _%_}
 use mathlib.Core.Path.{_≡_}
 use mathlib.Core.Bool.{cond}
 use mathlib.Core.List.{List, [], _∷_, _++_}
@@ -25,7 +25,7 @@ signed (negsuc n) = 45 ∷ decimal (suc n)
 unfoldable pub laid : List ℕ → ℕ → List ℕ → List ℕ
 laid t at bytes = take at t ++ (take (length t - at) bytes ++ drop (at + length bytes) t)
 
--- bytes were laid into t from place `at` on, which left t₁; the next place is the one after them, or the end
+-- bytes were laid into t from place `at` on, which left t₁; the next place is the one after them, also where they were cut
 pub record Laid (t : List ℕ) (at : ℕ) (bytes : List ℕ) (next : ℕ) (t₁ : List ℕ) : Type 0 where
   pub memory : t₁ ≡ laid t at bytes
-  pub after : next ≡ min (at + length bytes) (length t)
+  pub after : next ≡ at + length bytes

@@ -1,24 +1,25 @@
 // Text laid into lent memory piece by piece: bytes, and numbers in decimal. Each function returns the
-// place after what it laid; where there is no room left it lays what fits, and the rest is dropped.
-// Internal: each asks that its place is within the memory, which the caller meets.
+// place after its piece. Where there is no room left it lays what fits and drops the rest, and the place
+// goes on counting, so that the last one is the length of the whole text. Internal: each asks that this
+// count fits 64 bits, which the caller meets.
 ghost use mathlib.Core.List.{[], _∷_};
-ghost use Prim.Native.Nat.{_≤_};
+ghost use Prim.Native.Nat.{_+_, _^_, _<_};
 ghost use lib.ListN.{length};
 ghost use Rattle.text.specs.Text.{decimal, signed, Laid};
 
 pub fn put_byte(text: &mut [u8], at: usize, byte: u8) -> usize
-    requires { ⌜ at ≤ length (now text) ⌝ }
+    requires { ⌜ at + 1 < 2 ^ 64 ⌝ }
     ensures { λ r. ⌜ Laid (now (text .entry)) at (byte ∷ []) r (now (text .exit)) ⌝ }
 {
     if at < text.len() {
         text[at] = byte;
         return at + 1;
     }
-    at
+    at + 1
 }
 
 pub fn put_bytes(text: &mut [u8], at: usize, bytes: &[u8]) -> usize
-    requires { ⌜ at ≤ length (now text) ⌝ }
+    requires { ⌜ at + length (now bytes) < 2 ^ 64 ⌝ }
     ensures { λ r. ⌜ Laid (now (text .entry)) at (now (bytes .entry)) r (now (text .exit)) ⌝ }
 {
     let mut place = at;
@@ -32,7 +33,7 @@ pub fn put_bytes(text: &mut [u8], at: usize, bytes: &[u8]) -> usize
 
 // A number in decimal.
 pub fn put_decimal(text: &mut [u8], at: usize, n: u64) -> usize
-    requires { ⌜ at ≤ length (now text) ⌝ }
+    requires { ⌜ at + 20 < 2 ^ 64 ⌝ }
     ensures { λ r. ⌜ Laid (now (text .entry)) at (decimal n) r (now (text .exit)) ⌝ }
 {
     let mut digits = [0u8; 20];
@@ -49,7 +50,7 @@ pub fn put_decimal(text: &mut [u8], at: usize, n: u64) -> usize
 
 // A number in decimal, with a sign only below 0.
 pub fn put_signed(text: &mut [u8], at: usize, n: i32) -> usize
-    requires { ⌜ at ≤ length (now text) ⌝ }
+    requires { ⌜ at + 21 < 2 ^ 64 ⌝ }
     ensures { λ r. ⌜ Laid (now (text .entry)) at (signed n) r (now (text .exit)) ⌝ }
 {
     if n < 0 {

@@ -14,10 +14,13 @@ same-length : tie.Need-same-length
 same-length c = search needs
 
 returns : tie.Need-returns
-returns c = laid-one (c .before .pre) (c .before .args .byte) (c .if1 .taken)
+returns c = laid-one (c .before .args .byte) (c .if1 .taken)
+
+add-result-2 : tie.Need-add-result-2
+add-result-2 c = search needs
 
 returns-2 : tie.Need-returns-2
-returns-2 c = laid-full (c .before .pre) (c .before .args .byte) (c .if1 .left)
+returns-2 c = laid-full (c .before .args .byte) (c .if1 .left)
 
 pub put-byte-spec : {M : Type 1} → statement M
-put-byte-spec = tie.close (tie.spec slice-write-text add-result same-length returns returns-2)
+put-byte-spec = tie.close (tie.spec slice-write-text add-result same-length returns add-result-2 returns-2)

@@ -25,7 +25,7 @@ returns c =
     let b = c .before .before .before in
     let s = b .before .before .before .before .before .before .before .before in
     let is = signed-below (s .args .n) (b .size .result) (s .fits .n) (b .before .before .before .before .before .before .if1 .taken) (b .size .ensures) in
-    rw is (laid-more (s .pre) (b .before .before .before .before .put-byte .ensures) (c .before .before .put-decimal .ensures))
+    rw is (laid-more (b .before .before .before .before .put-byte .ensures) (c .before .before .put-decimal .ensures))
 
 size-requires-2 : tie.Need-size-requires-2
 size-requires-2 c κs = search needs

@@ -1,12 +1,12 @@
--- `sheet::layout::row_drift` meets its contract. Assumes nothing.
+-- `sheet_lines::row_drift` meets its contract. Assumes nothing.
 use mathlib.Core.Path.{_∙_}
 use borrow.Author.Needs.{needs}
 use mir.Facts.{toZ-ofZ}
 use mir.Syntax.{w32}
 use Rattle.cycle.proofs.Sizes.{drift-fits}
-use Rattle.sheet.proofs.Drifts.{told-drift, never-refused}
-use Rattle.sheet.proofs.layout.row_drift.Statement.{statement}
-use Rattle.sheet.proofs.layout.row_drift.Tie as tie
+use Rattle.sheet_lines.proofs.Drifts.{told-drift, never-refused}
+use Rattle.sheet_lines.proofs.row_drift.Statement.{statement}
+use Rattle.sheet_lines.proofs.row_drift.Tie as tie
 
 drift-requires : tie.Need-drift-requires
 drift-requires c κs = search needs

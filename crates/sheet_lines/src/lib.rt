@@ -1,4 +1,6 @@
-// The lines of the sheet, laid into the text memory one after the other.
+// The lines of the bench sheet, laid into lent memory one after the other. Each function returns the place
+// after its line; where there is no room left the text is cut, and the place goes on counting (see `text`).
+// Internal: that the places fit 64 bits and that each row has a drift is asked of the caller.
 use cycle::DriftAnswer;
 use refusal::Refusal;
 use shape::Shape;
@@ -7,7 +9,7 @@ use text::put_bytes;
 use text::put_decimal;
 use text::put_signed;
 ghost use mathlib.Core.Path.{_≡_};
-ghost use Prim.Native.Nat.{ℕ, _≤_, _<_};
+ghost use Prim.Native.Nat.{ℕ, _+_, _*_, _^_, _≤_, _<_};
 ghost use lib.ListN.{length};
 ghost use Rattle.refusal.specs.Limits.{mostRows, mostColumns};
 ghost use Rattle.refusal.specs.Table.{numberOf, placeOf};
@@ -16,12 +18,12 @@ ghost use Rattle.cycle.specs.Calls.{rowRules};
 ghost use Rattle.cycle.specs.Step.{drift};
 ghost use Rattle.shape.specs.Rules.{area};
 ghost use Rattle.text.specs.Text.{Laid};
-ghost use Rattle.sheet.specs.Words.{space};
-ghost use Rattle.sheet.specs.Sheet.{counted, refusalLine, headLine, phaseWords, rowLine, rowOf, imageLines};
+ghost use Rattle.sheet_lines.specs.Words.{space};
+ghost use Rattle.sheet_lines.specs.Lines.{counted, refusalLine, headLine, phaseWords, rowLine, rowOf, imageLines};
 
 // A word and a number after it.
 fn put_counted(text: &mut [u8], at: usize, word: &[u8], n: u64) -> usize
-    requires { ⌜ at ≤ length (now text) ⌝ }
+    requires { ⌜ at + length (now word) + 20 < 2 ^ 64 ⌝ }
     ensures { λ r. ⌜ Laid (now (text .entry)) at (counted (now (word .entry)) n) r (now (text .exit)) ⌝ }
 {
     let next = put_bytes(text, at, word);
@@ -51,14 +53,14 @@ fn put_head(text: &mut [u8], shape: Shape) -> usize
 
 // A phase after a space.
 fn put_phase(text: &mut [u8], at: usize, phase: u16) -> usize
-    requires { ⌜ at ≤ length (now text) ⌝ }
+    requires { ⌜ at + 21 < 2 ^ 64 ⌝ }
     ensures { λ r. ⌜ Laid (now (text .entry)) at (counted space phase) r (now (text .exit)) ⌝ }
 {
     put_counted(text, at, b" ", phase as u64)
 }
 
 fn put_phases(text: &mut [u8], at: usize, row: &[u16]) -> usize
-    requires { ⌜ at ≤ length (now text) ⌝ }
+    requires { ⌜ at + 21 * length (now row) < 2 ^ 64 ⌝ }
     ensures { λ r. ⌜ Laid (now (text .entry)) at (phaseWords (now (row .entry))) r (now (text .exit)) ⌝ }
 {
     let mut place = at;
@@ -83,7 +85,7 @@ fn row_drift(cycle: u32, row: &[u16]) -> i32
 
 // The line of a row.
 fn put_row(text: &mut [u8], at: usize, cycle: u32, i: usize, row: &[u16]) -> usize
-    requires { ⌜ (at ≤ length (now text)) × Clear (rowRules cycle (now row)) ⌝ }
+    requires { ⌜ (at + 54 + 21 * length (now row) < 2 ^ 64) × Clear (rowRules cycle (now row)) ⌝ }
     ensures { λ r. ⌜ Laid (now (text .entry)) at (rowLine cycle i (now (row .entry))) r (now (text .exit)) ⌝ }
 {
     let name = put_counted(text, at, b"row ", i as u64);

@@ -5,7 +5,7 @@ use mathlib.Core.Bool.{true}
 use mathlib.Core.List.{List, [], _∷_}
 use native.Mathlib.Omega.{arith}
 use native.Mathlib.Decide.{decLe}
-use native.Mathlib.Nat.{mul-le-mul-left}
+use native.Mathlib.Nat.{mul-le-mul-left, mul-le-mul-right}
 use borrow.Author.Tests.{ltb-true}
 use lib.ListN.{length, drop, length-append, length-take}
 use Rattle.lists.specs.Members.{Each}
@@ -15,23 +15,37 @@ use Rattle.refusal.specs.Limits.{longestCycle, mostRows, mostColumns}
 use Rattle.cycle.specs.Distance.{isReading}
 use Rattle.cycle.specs.Step.{drift}
 use Rattle.shape.specs.declared.Shape.{Shape}
-use Rattle.text.proofs.TextLaws.{decimal-short, decimal-most, signed-short}
+use Rattle.text.specs.Text.{decimal}
+use Rattle.text.proofs.TextLaws.{decimal-short, decimal-most, signed-short, signed-most}
 use Rattle.refusal.specs.Outcome.{Clear}
 use Rattle.cycle.specs.Calls.{rowRules}
 use Rattle.cycle.proofs.Accepted.{row-clear}
 use Rattle.cycle.proofs.Sizes.{drift-size}
-use Rattle.sheet.specs.Sheet.{mostBytes, refusalLine, headLine, phaseWords, rowLine, rowOf, imageLines}
+use Rattle.sheet_lines.specs.Lines.{counted, refusalLine, headLine, phaseWords, rowLine, rowOf, imageLines}
+
+-- a word and a number, whatever the number is
+pub counted-most : (word : List ℕ) (n : ℕ) → length (counted word n) ≤ length word + 20
+counted-most word n = omega (arith, length-append word (decimal n), decimal-most n)
 
 -- the line of a refusal
 pub refusal-short : (number place : ℕ) → length (refusalLine number place) ≤ 53
 refusal-short number place = simp length-append (omega (arith, decimal-most number, decimal-most place))
 
 -- the first line of an image
-head-short : (s : Shape) → length (headLine s) ≤ 129
+pub head-short : (s : Shape) → length (headLine s) ≤ 129
 head-short s =
     let mask-rows = decimal-most (s .«mask_rows») in
     let mask-columns = decimal-most (s .«mask_columns») in
     simp length-append (omega (arith, decimal-most (s .cycle), decimal-most (s .rows), decimal-most (s .columns)))
+
+-- the phases of a row, and its line, whatever its phases are
+pub words-most : (row : List ℕ) → length (phaseWords row) ≤ 21 * length row
+unfolding phaseWords
+words-most [] = omega arith
+words-most (p ∷ row) = simp length-append (omega (arith, decimal-most p, words-most row))
+
+pub row-most : (c i : ℕ) (row : List ℕ) → length (rowLine c i row) ≤ 54 + 21 * length row
+row-most c i row = simp length-append (omega (arith, decimal-most i, words-most row, signed-most (drift c row)))
 
 module _ {c : ℕ} (fits : c ≤ longestCycle) where
   -- five digits and a space for each phase
@@ -58,9 +72,20 @@ joined-short f w a (suc n) e =
     let rest = joined-short f w (suc a) n (λ k h g. e k (omega arith) (omega arith)) in
     rw length-append (omega arith)
 
--- The lines of an image whose record has at most 16,384 bytes. A row's line has at most three bytes for each byte of its field, and 15 more
--- where it has at most 30 phases, 18 where its drift may be longer; but of such rows there are at most 252.
-module _ (s : Shape) (phases : List ℕ) (m : s .rows ≤ mostRows) (n : s .columns ≤ mostColumns) (bytes : s .rows * (3 + 2 * s .columns) ≤ mostBytes)
+-- the lines of the first i rows of an image, whatever its phases are
+pub rows-most : (s : Shape) (phases : List ℕ) (i : ℕ) → s .columns ≤ mostColumns → i ≤ mostRows
+    → length (joined (λ k. rowLine (s .cycle) k (rowOf s phases k)) 0 i) ≤ mostRows * (54 + 21 * mostColumns)
+rows-most s phases i n m =
+    let all : i * (54 + 21 * mostColumns) ≤ mostRows * (54 + 21 * mostColumns) = mul-le-mul-right (54 + 21 * mostColumns) m in
+    omega (arith, all, joined-short (λ k. rowLine (s .cycle) k (rowOf s phases k)) (54 + 21 * mostColumns) 0 i (λ k a b. one k))
+  where
+    one : (k : ℕ) → length (rowLine (s .cycle) k (rowOf s phases k)) ≤ 54 + 21 * mostColumns
+    one k = omega (arith, row-most (s .cycle) k (rowOf s phases k), length-take (s .columns) (drop (k * s .columns) phases))
+
+-- The lines of an image, by its rows' sizes: where its row fields have at most 16,384 bytes, it is at most 65,536. A row's line has at most
+-- three bytes for each byte of its field, and 15 more where it has at most 30 phases, 18 where its drift may be longer; but of such rows
+-- there are at most 252.
+module _ (s : Shape) (phases : List ℕ) (m : s .rows ≤ mostRows) (n : s .columns ≤ mostColumns) (bytes : s .rows * (3 + 2 * s .columns) ≤ 16384)
     (each : (i : ℕ) → i < s .rows → Clear (rowRules (s .cycle) (rowOf s phases i))) where
   -- the lines of the rows, where a drift has at most k + 2 bytes
   rows-short : (k : ℕ) → s .columns * 32767 < 10 ^ (k + 1)

@@ -5,8 +5,8 @@ use mathlib.Core.List.{List, [], _∷_, _++_, append-assoc, append-nil}
 use native.Mathlib.Numerals.{add-one}
 use native.Mathlib.Omega.{arith}
 use lib.ListN.{length, take, getD}
-use Rattle.sheet.specs.Words.{space}
-use Rattle.sheet.specs.Sheet.{counted, phaseWords}
+use Rattle.sheet_lines.specs.Words.{space}
+use Rattle.sheet_lines.specs.Lines.{counted, phaseWords}
 
 -- one phase more
 words-append : (ps : List ℕ) (p : ℕ) → phaseWords (ps ++ (p ∷ [])) ≡ phaseWords ps ++ counted space p

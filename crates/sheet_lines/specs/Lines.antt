@@ -1,0 +1,40 @@
+-- Document 01, "The bench sheet": the lines that are printed, as bytes.
+use Prim.Native.Nat.{ℕ, _*_}
+use mathlib.Core.List.{List, [], _∷_, _++_}
+use lib.ListN.{take, drop}
+use Rattle.lists.specs.Joined.{joined}
+use Rattle.cycle.specs.Step.{drift}
+use Rattle.shape.specs.declared.Shape.{Shape}
+use Rattle.text.specs.Text.{decimal, signed}
+use Rattle.sheet_lines.specs.Words.{refusedWord, atWord, cycleWord, rowsWord, columnsWord, maskWord, space, rowWord, colon, driftWord, lineEnd}
+
+-- a word and a number
+abbrev pub counted : List ℕ → ℕ → List ℕ
+counted word n = word ++ decimal n
+
+-- "A refusal prints `refused 9 at 1` (number, place)."
+abbrev pub refusalLine : ℕ → ℕ → List ℕ
+refusalLine number place = counted refusedWord number ++ (counted atWord place ++ lineEnd)
+
+-- "First line: C, M, N, R, T."
+abbrev pub headLine : Shape → List ℕ
+headLine s =
+    counted cycleWord (s .cycle) ++ (counted rowsWord (s .rows) ++ (counted columnsWord (s .columns)
+    ++ (counted maskWord (s .«mask_rows») ++ (counted space (s .«mask_columns») ++ lineEnd))))
+
+-- each phase after a space
+unfoldable pub phaseWords : List ℕ → List ℕ
+phaseWords [] = []
+phaseWords (p ∷ ps) = counted space p ++ phaseWords ps
+
+-- "Then for each row its index from 0, its N filtered phases, and their drift."
+abbrev pub rowLine : ℕ → ℕ → List ℕ → List ℕ
+rowLine c i phases = counted rowWord i ++ (colon ++ (phaseWords phases ++ (driftWord ++ (signed (drift c phases) ++ lineEnd))))
+
+-- row i of an image that is stored row by row
+abbrev pub rowOf : Shape → List ℕ → ℕ → List ℕ
+rowOf s phases i = take (s .columns) (drop (i * s .columns) phases)
+
+-- the lines of a filtered image
+unfoldable pub imageLines : Shape → List ℕ → List ℕ
+imageLines s phases = headLine s ++ joined (λ i. rowLine (s .cycle) i (rowOf s phases i)) 0 (s .rows)
