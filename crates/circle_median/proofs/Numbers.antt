@@ -1,64 +1,61 @@
--- "Number 0 means accepted": no refusal has the number 0, so a filter that answers 0 is an accepted call of its engine, and what is
--- proved of accepted calls holds of it. Over the contract of the exported calls alone. Assumes nothing.
-use Prim.Native.Nat.{ℕ, _<_}
-use mathlib.Core.Path.{_≡_, refl, ap, sym, subst, _∙_}
-use mathlib.Core.List.{List, _∷_, _++_}
+-- "Number 0 means accepted": no rule has the number 0, so an exported function that answers 0 tells the result of an accepted call, and
+-- what is proved of accepted calls holds of it. Over the contracts of the exported functions alone. Assumes nothing.
+use Prim.Native.Nat.{ℕ}
+use mathlib.Core.Path.{_≡_, refl, ap, sym, _∙_}
+use mathlib.Core.Bool.{cond}
+use mathlib.Core.List.{List}
 use native.Mathlib.Omega.{arith}
-use borrow.Author.Needs.{needs}
+use lib.IntN.{ℤ, pos}
 use lib.ListN.{length}
-use Rattle.lists.specs.Members.{Each}
-use Rattle.lists.proofs.Members.{each-append, each-split}
-use Rattle.refusal.specs.Outcome.{Outcome, Rule, firstDue, leaves}
+use Rattle.refusal.specs.Outcome.{Outcome, Rule, firstDue, Numbered}
 use Rattle.refusal.specs.Outcome.Outcome.{accepted, refused}
-use Rattle.refusal.proofs.Outcome.{refused-due}
-use Rattle.shape.specs.Rules.{shapeRules}
+use Rattle.refusal.proofs.Outcome.{accepted-value}
+use Rattle.refusal.proofs.Order.{due-numbered}
+use Rattle.cycle.specs.Distance.{distance}
+use Rattle.cycle.specs.Step.{step, drift, inSlot}
+use Rattle.cycle.specs.Calls.{pairRules, slotRules, rowRules, distanceCall, stepCall, slotCall, driftCall}
+use Rattle.cycle.proofs.Order.{pair-numbered, slot-numbered, row-numbered}
 use Rattle.shape.specs.declared.Shape.{Shape}
 use Rattle.filter.specs.declared.Engine.{Engine}
 use Rattle.filter.specs.declared.Engine.the-variants.{Level, Reading}
 use Rattle.filter.specs.declared.FilterAnswer.the-variants.{Filtered}
-use Rattle.filter.specs.Calls.{limit, need, imageRules, filterCall, filteredRows, zeroedWork, Call, SameRows}
+use Rattle.filter.specs.Calls.{filterRules, filterCall, Call, SameRows}
+use Rattle.filter.proofs.Order.{filter-numbered}
 use Rattle.filter.proofs.Demand3.{same-rows}
+use Rattle.record_format.specs.Record.{recordLength, writeRules, writeCall}
+use Rattle.record_format.specs.Reading.{shapeIn, readRules, readCall}
+use Rattle.record_format.proofs.Order.{write-numbered, read-numbered}
+use Rattle.record.specs.declared.ReadAnswer.the-variants.{Read}
+use Rattle.record.specs.declared.WriteAnswer.the-variants.{Written}
+use Rattle.record.specs.Calls.{Reads, Writes}
 use Rattle.circle_median.specs.declared.answers.Answer.{Answer}
-use Rattle.circle_median.specs.Answers.{answerOf}
-use Rattle.circle_median.specs.Calls.{ExportedFilter}
+use Rattle.circle_median.specs.declared.answers.ValueAnswer.{ValueAnswer}
+use Rattle.circle_median.specs.declared.answers.RecordAnswer.{RecordAnswer}
+use Rattle.circle_median.specs.Answers.{answerOf, valueOf, recordOf, natural, flag}
+use Rattle.circle_median.specs.Calls.{ExportedFilter, ExportedWrite, ExportedRead}
 
-abbrev Numbered : List Rule → Type 0
-Numbered = Each (λ r. 0 < r .number)
-
--- the first that is due is one of them
-due-numbered : {A : Type 0} (v : A) (rs : List Rule) {n k : ℕ} → Numbered rs → firstDue rs v ≡ refused n k → 0 < n
-due-numbered v rs {n} {k} each said =
-    let d = refused-due v rs n k said in
-    let parts = each-split (λ r. 0 < r .number) (d .before) (d .by ∷ d .after) (subst Numbered (d .split) each) in
-    omega (arith, parts .1 .0, d .number)
-
-shape-numbered : (limit : ℕ) (s : Shape) → Numbered (shapeRules limit s)
-shape-numbered limit s = search needs
-
-image-numbered : (s : Shape) (need first end : ℕ) (image : List ℕ) (output work : ℕ) → Numbered (imageRules s need first end image output work)
-image-numbered s need first end image output work = search needs
+-- The law, of any answer that tells a refusal's number: where no rule has the number 0, an answer with the number 0 tells an accepted call.
+module _ {A B : Type 0} (tell : Outcome A → B) (number : B → ℕ) (tells : (n k : ℕ) → number (tell (refused n k)) ≡ n) (v : A) (rs : List Rule)
+    (numbered : Numbered rs) {r : B} (is : r ≡ tell (firstDue rs v)) (zero : number r ≡ 0) where
+  zero-accepted : firstDue rs v ≡ accepted v
+  zero-accepted = go (firstDue rs v) refl
+    where
+      go : (o : Outcome A) → firstDue rs v ≡ o → firstDue rs v ≡ accepted v
+      go (accepted w) said = said ∙ ap accepted (accepted-value v rs w said)
+      go (refused n k) said =
+          let n-is : number r ≡ n = ap number (is ∙ ap tell said) ∙ tells n k in
+          absurd (omega (arith, zero, n-is, due-numbered v rs numbered said))
 
 module _ {e : Engine} {s : Shape} {first end : ℕ} {image output work output₁ work₁ : List ℕ} {r : Answer}
     (call : ExportedFilter e s first end image output work r output₁ work₁) where
-  abbrev shape-tests : List Rule
-  shape-tests = shapeRules (limit e) s
-
-  abbrev image-tests : List Rule
-  image-tests = imageRules s (need e s) first end image (length output) (length work)
-
   -- a filter that answers 0 is an accepted call
   pub number-zero : r .number ≡ 0 → Call e s first end image output work Filtered output₁ work₁
   unfolding filterCall
-  number-zero zero = go (filterCall e s first end image (length output) (length work)) refl
-    where
-      go : (o : Outcome Unit) → filterCall e s first end image (length output) (length work) ≡ o
-          → Call e s first end image output work Filtered output₁ work₁
-      go (accepted v) said = record { answer = sym said; output = rw said at (call .output); work = rw said at (call .work) }
-      go (refused n k) said =
-          let rules = each-append (λ r. 0 < r .number) shape-tests image-tests (shape-numbered (limit e) s)
-          (image-numbered s (need e s) first end image (length output) (length work)) in
-          let is : r .number ≡ n = ap (λ (a : Answer). a .number) (call .answer ∙ ap answerOf said) in
-          absurd (omega (arith, zero, is, due-numbered tt (shape-tests ++ image-tests) rules said))
+  number-zero zero =
+      let rs = filterRules e s first end image (length output) (length work) in
+      let numbered = filter-numbered e s first end image (length output) (length work) in
+      let said = zero-accepted answerOf (λ a. a .number) (λ n k. refl) tt rs numbered (call .answer) zero in
+      record { answer = sym said; output = rw said at (call .output); work = rw said at (call .work) }
 
 -- Demand 3 for programs in C and Rust: two filters that answer 0 on one shape, image and range have written the same rows.
 pub exported-same-rows : {s : Shape} {first end : ℕ} {image output work output₁ work₁ other room other₁ room₁ : List ℕ} {r q : Answer}
@@ -66,3 +63,47 @@ pub exported-same-rows : {s : Shape} {first end : ℕ} {image output work output
     → ExportedFilter Reading s first end image other room q other₁ room₁ → q .number ≡ 0
     → SameRows s first end output₁ other₁
 exported-same-rows level zero reading nought = same-rows (number-zero level zero) (number-zero reading nought)
+
+-- and then the value told is that of the call
+value-zero : {A : Type 0} (tell : Outcome A → Outcome ℤ) (tells : (n k : ℕ) → valueOf (tell (refused n k)) .number ≡ n) (v : A) (rs : List Rule)
+    → Numbered rs → {r : ValueAnswer} → r ≡ valueOf (tell (firstDue rs v)) → r .number ≡ 0
+    → r .value ≡ valueOf (tell (accepted v)) .value
+value-zero {A} tell tells v rs numbered is zero =
+    let said = zero-accepted (λ o. valueOf (tell o)) (λ a. a .number) tells v rs numbered is zero in
+    ap (λ (a : ValueAnswer). a .value) (is ∙ ap (λ (o : Outcome A). valueOf (tell o)) said)
+
+module _ {r : ValueAnswer} (c : ℕ) where
+  pub distance-zero : (a b : ℕ) → r ≡ valueOf (natural (distanceCall c a b)) → r .number ≡ 0 → r .value ≡ pos (distance c a b)
+  unfolding distanceCall
+  distance-zero a b = value-zero natural (λ n k. refl) (distance c a b) (pairRules c a b) (pair-numbered c a b)
+
+  pub step-zero : (a b : ℕ) → r ≡ valueOf (stepCall c a b) → r .number ≡ 0 → r .value ≡ step c a b
+  unfolding stepCall
+  step-zero a b = value-zero (λ o. o) (λ n k. refl) (step c a b) (pairRules c a b) (pair-numbered c a b)
+
+  pub slot-zero : (p s w : ℕ) → r ≡ valueOf (flag (slotCall c p s w)) → r .number ≡ 0 → r .value ≡ cond (inSlot c s w p) (pos 1) (pos 0)
+  unfolding slotCall
+  slot-zero p s w = value-zero flag (λ n k. refl) (inSlot c s w p) (slotRules c p s w) (slot-numbered c p s w)
+
+  pub drift-zero : (row : List ℕ) → r ≡ valueOf (driftCall c row) → r .number ≡ 0 → r .value ≡ drift c row
+  unfolding driftCall
+  drift-zero row = value-zero (λ o. o) (λ n k. refl) (drift c row) (rowRules c row) (row-numbered c row)
+
+-- a writer that answers 0 has written the record, and its value is the record's length
+pub write-zero : {s : Shape} {readings bytes : List ℕ} {r : ValueAnswer} {bytes′ : List ℕ} → ExportedWrite s readings bytes r bytes′ → r .number ≡ 0
+    → Writes s readings bytes (Written (recordLength s)) bytes′ × (r .value ≡ pos (recordLength s))
+unfolding writeCall
+write-zero {s} {readings} {bytes} call zero =
+    let rs = writeRules s readings (length bytes) in
+    let numbered = write-numbered s readings (length bytes) in
+    let said = zero-accepted (λ o. valueOf (natural o)) (λ a. a .number) (λ n k. refl) (recordLength s) rs numbered (call .answer) zero in
+    (record { answer = sym said; memory = call .memory }, value-zero natural (λ n k. refl) (recordLength s) rs numbered (call .answer) zero)
+
+-- a reader that answers 0 has read the record, and its five numbers are the record's
+pub read-zero : {bytes buffer : List ℕ} {r : RecordAnswer} {buffer′ : List ℕ} → ExportedRead bytes buffer r buffer′ → r .number ≡ 0
+    → Reads bytes buffer (Read (shapeIn bytes)) buffer′ × (r ≡ recordOf (accepted (shapeIn bytes)))
+unfolding readCall
+read-zero {bytes} {buffer} call zero =
+    let rs = readRules bytes (length buffer) in
+    let said = zero-accepted recordOf (λ a. a .number) (λ n k. refl) (shapeIn bytes) rs (read-numbered bytes (length buffer)) (call .answer) zero in
+    (record { answer = sym said; memory = call .memory }, call .answer ∙ ap recordOf said)

@@ -5,3 +5,4 @@ pub mod StepLaws
 pub mod DriftLaws
 pub mod SignedLaws
 pub mod Sizes
+pub mod Order

@@ -1,2 +1,3 @@
 pub mod CallLaws
 pub mod Demand3
+pub mod Order

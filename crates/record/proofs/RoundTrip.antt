@@ -1,7 +1,7 @@
 -- The round trip, from what the contracts of the writer and the reader promise and nothing else: what was written reads back, and
 -- what was read, with four bytes in its mask field, is written again byte by byte. Assumes nothing.
 use Prim.Native.Nat.{ℕ, _≤_, _<_}
-use mathlib.Core.Path.{_≡_, ap, sym, subst, _∙_}
+use mathlib.Core.Path.{_≡_, ap, sym, _∙_}
 use mathlib.Core.List.{List, _++_}
 use native.Mathlib.Omega.{arith}
 use lib.ListN.{length, take, drop}
@@ -22,7 +22,7 @@ use Rattle.record.specs.declared.ReadAnswer.{ReadAnswer}
 use Rattle.record.specs.declared.WriteAnswer.{WriteAnswer}
 use Rattle.record.specs.declared.ReadAnswer.the-variants.{Read}
 use Rattle.record.specs.declared.WriteAnswer.the-variants.{Written}
-use Rattle.record.specs.Calls.{readTold, writeTold, Reads, Writes}
+use Rattle.record.specs.Calls.{readTold, writeTold, left, Reads, Writes}
 use Rattle.record.proofs.Left.{left-accepted, left-refused}
 use Rattle.record.specs.declared.ReadAnswer.the-variants as reads
 use Rattle.record.specs.declared.WriteAnswer.the-variants as writes
@@ -54,44 +54,57 @@ has-written {s} {readings} {bytes} {n} {bytes′} w =
       bytes-are = ap (take n) all ∙ take-at (recordBytes s readings) _ n (length-record s readings (t .input) ∙ sym n-is);
     }
 
-module _ {s : Shape} {readings bytes : List ℕ} {n : ℕ} {bytes′ : List ℕ} {buffer : List ℕ} {r : ReadAnswer} {buffer′ : List ℕ} where
-  -- The writer returned n, and the reader is given exactly the first n bytes, with room for the readings: it returns the same five
-  -- numbers, and the buffer begins with the readings that were written; the rest of it is as it was.
-  pub reads-back : Writes s readings bytes (Written n) bytes′ → Reads (take n bytes′) buffer r buffer′ → area s ≤ length buffer
-      → (r ≡ Read s) × (buffer′ ≡ readings ++ drop (area s) buffer)
-  reads-back w i room =
+-- The writer returned n, and a reader is given exactly the first n bytes.
+module _ {s : Shape} {readings bytes : List ℕ} {n : ℕ} {bytes′ : List ℕ} (w : Writes s readings bytes (Written n) bytes′) (buffer : List ℕ) {buffer′ : List ℕ}
+    (memory : buffer′ ≡ left (readCall (take n bytes′) (length buffer)) (imageIn (take n bytes′)) buffer) where
+  -- with room for the readings it is told the same five numbers, and the buffer begins with the readings that were written; the rest
+  -- of it is as it was
+  pub call-reads-back : area s ≤ length buffer → (readCall (take n bytes′) (length buffer) ≡ accepted s) × (buffer′ ≡ readings ++ drop (area s) buffer)
+  call-reads-back room =
       let h = has-written w in
       let t = h .tests in
-      let j = subst (λ (b : List ℕ). Reads b buffer r buffer′) (h .bytes-are) i in
-      let call = written-read s readings (t .input) (t .tests) (t .good) (length buffer) room in
-      let image = image-back s readings (t .input) in
-      (told-read r s (j .answer ∙ call), j .memory ∙ left-accepted (imageIn (recordBytes s readings)) buffer call ∙ rw (image, t .input))
+      let call = rw (← (h .bytes-are)) at (written-read s readings (t .input) (t .tests) (t .good) (length buffer) room) in
+      let image = rw (← (h .bytes-are)) at (image-back s readings (t .input)) in
+      (call, memory ∙ left-accepted (imageIn (take n bytes′)) buffer call ∙ rw (image, t .input))
 
   -- with less room: 7 at 0
-  pub reads-back-short : Writes s readings bytes (Written n) bytes′ → Reads (take n bytes′) buffer r buffer′ → length buffer < area s
-      → (readTold r ≡ refused 7 0) × (buffer′ ≡ buffer)
-  reads-back-short w i room =
+  pub call-reads-back-short : length buffer < area s → (readCall (take n bytes′) (length buffer) ≡ refused 7 0) × (buffer′ ≡ buffer)
+  call-reads-back-short room =
       let h = has-written w in
       let t = h .tests in
-      let j = subst (λ (b : List ℕ). Reads b buffer r buffer′) (h .bytes-are) i in
-      let call = written-short s readings (t .input) (t .tests) (t .good) (length buffer) room in
-      (j .answer ∙ call, j .memory ∙ left-refused (imageIn (recordBytes s readings)) buffer call)
+      let call = rw (← (h .bytes-are)) at (written-short s readings (t .input) (t .tests) (t .good) (length buffer) room) in
+      (call, memory ∙ left-refused (imageIn (take n bytes′)) buffer call)
 
-module _ {b buffer buffer′ : List ℕ} {s : Shape} {bytes : List ℕ} {w : WriteAnswer} {bytes′ : List ℕ} where
-  -- The reader accepted b, whose mask field says length 4, and the writer is given what was read, with room for as many bytes as b
-  -- has: it returns that number, and the bytes begin with b; the rest of them is as it was.
-  pub writes-back : Bytes b → Reads b buffer (Read s) buffer′ → maskSaid b ≡ 4 → Writes s (take (area s) buffer′) bytes w bytes′
-      → length b ≤ length bytes
-      → (w ≡ Written (length b)) × (bytes′ ≡ b ++ drop (length b) bytes)
+-- The reader accepted b, whose mask field says length 4, and a writer is given what was read, with room for as many bytes as b has: it
+-- is told that number, and the bytes begin with b; the rest of them is as it was.
+module _ {b buffer buffer′ : List ℕ} {s : Shape} (bytes : List ℕ) {bytes′ : List ℕ} where
+  pub call-writes-back : Bytes b → Reads b buffer (Read s) buffer′ → maskSaid b ≡ 4
+      → bytes′ ≡ left (writeCall s (take (area s) buffer′) (length bytes)) (recordBytes s (take (area s) buffer′)) bytes → length b ≤ length bytes
+      → (writeCall s (take (area s) buffer′) (length bytes) ≡ accepted (length b)) × (bytes′ ≡ b ++ drop (length b) bytes)
   unfolding readCall
-  writes-back small i four o room =
+  call-writes-back small i four memory room =
       let clear = accepted-clear (shapeIn b) (readRules b (length buffer)) s (sym (i .answer)) in
       let t = readable b (length buffer) clear in
       let s-is = accepted-value (shapeIn b) (readRules b (length buffer)) s (sym (i .answer)) in
       let all = i .memory ∙ left-accepted (imageIn b) buffer (sym (i .answer)) in
       let image : take (area s) buffer′ ≡ imageIn b = ap (take (area s)) all ∙ take-at (imageIn b) _ (area s) (length-image b ∙ ap area (sym s-is)) in
-      let q = subst (λ (t : Shape). Writes t (take (area s) buffer′) bytes w bytes′) s-is o in
-      let p = subst (λ (x : List ℕ). Writes (shapeIn b) x bytes w bytes′) image q in
-      let call = read-written b small (length buffer) t four (length bytes) room in
-      let back = bytes-back b small (length buffer) t four in
-      (told-written w (length b) (p .answer ∙ call), p .memory ∙ left-accepted (recordBytes (shapeIn b) (imageIn b)) bytes call ∙ rw back)
+      let call : writeCall s (take (area s) buffer′) (length bytes) ≡ accepted (length b) =
+      rw (image, s-is) (read-written b small (length buffer) t four (length bytes) room) in
+      let back : recordBytes s (take (area s) buffer′) ≡ b = rw (image, s-is) (bytes-back b small (length buffer) t four) in
+      (call, memory ∙ left-accepted (recordBytes s (take (area s) buffer′)) bytes call ∙ rw back)
+
+-- The same over the contracts of the two calls.
+module _ {s : Shape} {readings bytes : List ℕ} {n : ℕ} {bytes′ : List ℕ} {buffer : List ℕ} {r : ReadAnswer} {buffer′ : List ℕ} where
+  pub reads-back : Writes s readings bytes (Written n) bytes′ → Reads (take n bytes′) buffer r buffer′ → area s ≤ length buffer
+      → (r ≡ Read s) × (buffer′ ≡ readings ++ drop (area s) buffer)
+  reads-back w i room = let back = call-reads-back w buffer (i .memory) room in (told-read r s (i .answer ∙ back .0), back .1)
+
+  pub reads-back-short : Writes s readings bytes (Written n) bytes′ → Reads (take n bytes′) buffer r buffer′ → length buffer < area s
+      → (readTold r ≡ refused 7 0) × (buffer′ ≡ buffer)
+  reads-back-short w i room = let back = call-reads-back-short w buffer (i .memory) room in (i .answer ∙ back .0, back .1)
+
+module _ {b buffer buffer′ : List ℕ} {s : Shape} {bytes : List ℕ} {w : WriteAnswer} {bytes′ : List ℕ} where
+  pub writes-back : Bytes b → Reads b buffer (Read s) buffer′ → maskSaid b ≡ 4 → Writes s (take (area s) buffer′) bytes w bytes′
+      → length b ≤ length bytes
+      → (w ≡ Written (length b)) × (bytes′ ≡ b ++ drop (length b) bytes)
+  writes-back small i four o room = let back = call-writes-back bytes small i four (o .memory) room in (told-written w (length b) (o .answer ∙ back .0), back .1)

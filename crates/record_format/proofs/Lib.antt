@@ -5,3 +5,4 @@ pub mod Readable
 pub mod Holds
 pub mod Written
 pub mod Reread
+pub mod Order
