@@ -130,8 +130,8 @@ fn each_row(
     }
 }
 
-// The same, called at two places. A function that is called at one place only is inlined there, and its
-// local memory with it: the table would then stand in the frame of a call that is refused, too.
+// The same. A function that calls itself is not inlined, so that the table stays out of its callers' frames,
+// where a call that is refused would pay for it. The call is never made: first is at most end.
 pub fn fill(
     shape: Shape,
     first: usize,
@@ -145,8 +145,8 @@ pub fn fill(
     ensures { λ _. ⌜ now (output .exit) ≡ written (phaseAt shape (now (image .entry))) (first * shape .columns) (end * shape .columns) (now (output .entry)) ⌝ }
     ensures { λ _. ⌜ Outside (now (work .entry)) (now (work .exit)) 0 (shape .columns * shape .cycle + shape .cycle) ⌝ }
 {
-    if first == 0 {
-        return each_row(shape, 0, end, image, output, work);
+    each_row(shape, first, end, image, output, work);
+    if end < first {
+        fill(shape, first, end, image, output, work);
     }
-    each_row(shape, first, end, image, output, work)
 }

@@ -118,8 +118,8 @@ fn with_lines(
     );
 }
 
-// The same, called at two places. A function that is called at one place only is inlined there, and its
-// local memory with it: the lines would then stand in the frame of a call that is refused, too.
+// The same. A function that calls itself is not inlined, so that the lines stay out of its callers' frames,
+// where a call that is refused would pay for them. The call is never made: first is at most end.
 pub fn fill(
     shape: Shape,
     first: usize,
@@ -133,8 +133,8 @@ pub fn fill(
     ensures { λ _. ⌜ now (output .exit) ≡ written (phaseAt shape (now (image .entry))) (first * shape .columns) (end * shape .columns) (now (output .entry)) ⌝ }
     ensures { λ _. ⌜ Outside (now (work .entry)) (now (work .exit)) 0 (need shape) ⌝ }
 {
-    if first == 0 {
-        return with_lines(shape, 0, end, image, output, work);
+    with_lines(shape, first, end, image, output, work);
+    if end < first {
+        fill(shape, first, end, image, output, work);
     }
-    with_lines(shape, first, end, image, output, work)
 }

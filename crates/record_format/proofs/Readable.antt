@@ -1,7 +1,7 @@
 -- What it says of bytes that the reader's tests are clear, and back. Assumes nothing.
 use Prim.Native.Nat.{ℕ, zero, suc, _+_, _*_, _≤_, _<_}
 use mathlib.Core.Path.{_≡_}
-use mathlib.Core.Bool.{false}
+use mathlib.Core.Bool.{true, false}
 use mathlib.Core.List.{List, [], _∷_, _++_}
 use native.Mathlib.Omega.{arith}
 use native.Mathlib.Numerals.{add-one}
@@ -10,6 +10,7 @@ use lib.Dec.{ltb}
 use lib.ListN.{length}
 use Rattle.lists.specs.First.{firstBad}
 use Rattle.lists.specs.Joined.{joined}
+use Rattle.lists.proofs.First.{all-good, good-all}
 use Rattle.lists.proofs.Joined.{length-joined, each-of-joined, each-in-joined}
 use Rattle.refusal.specs.Limits.{longestCycle}
 use Rattle.refusal.specs.Outcome.{Rule, rule, Clear}
@@ -128,3 +129,11 @@ module _ (bytes : List ℕ) (room : ℕ) where
       (clear-join (joined (rowFieldRules bytes) 0 (rowsIn bytes)) (endFieldRules bytes) rows
       (clear-join (fieldRules bytes (endAt bytes) endTag 0) trailing (clear-field bytes (endAt bytes) endTag 0 (r .end))
       (le-ltb (endAt bytes + 3) (length bytes) (r .last), tt)))))
+
+  -- all readings of such a record are good
+  pub image-good : Readable bytes room → length (imageIn bytes) ≤ firstBad (isReading (cycleIn bytes)) (imageIn bytes)
+  unfolding imageIn
+  image-good r =
+      let P : (ℕ → Type 0) = λ y. isReading (cycleIn bytes) y ≡ true in
+      good-all (isReading (cycleIn bytes)) (joined (rowIn bytes) 0 (rowsIn bytes))
+      (each-of-joined (rowIn bytes) P 0 (rowsIn bytes) (λ i g h. all-good (isReading (cycleIn bytes)) (rowIn bytes i) (r .rows i (omega arith) .good)))

@@ -1,7 +1,6 @@
 -- A record that was read, with four bytes in its mask field, is written again as it was. Assumes nothing.
 use Prim.Native.Nat.{ℕ, _+_, _*_, _≤_, _<_}
 use mathlib.Core.Path.{_≡_, refl, ap, sym, _∙_}
-use mathlib.Core.Bool.{true}
 use mathlib.Core.List.{List, [], _∷_, _++_}
 use native.Mathlib.Omega.{arith}
 use native.Mathlib.Nat.{zero-add}
@@ -9,8 +8,6 @@ use borrow.Author.Tests.{eq-eqb, le-ltb}
 use lib.ListN.{length}
 use Rattle.lists.specs.First.{firstBad}
 use Rattle.lists.specs.Joined.{joined}
-use Rattle.lists.proofs.First.{all-good, good-all}
-use Rattle.lists.proofs.Joined.{each-of-joined}
 use Rattle.lists.proofs.Holds.{Holds, holds-whole, holds-taken, holds-join, holds-none, holds-all, holds-part, parts-hold}
 use Rattle.refusal.specs.Limits.{longestCycle}
 use Rattle.refusal.specs.Outcome.Outcome.{accepted}
@@ -22,7 +19,7 @@ use Rattle.record_format.specs.Record.{rowOf, rowField, recordBytes, rec
 use Rattle.record_format.specs.Reading.{cycleIn, rowsIn, columnsIn, maskSaid, maskRowsIn, maskColumnsIn, shapeIn, rowAt, endAt, rowIn, imageIn}
 use Rattle.record_format.proofs.Fields.{length-numbers, length-row-field, length-row-fields, length-record}
 use Rattle.record_format.proofs.FieldRead.{FieldAt, MaskIn, mask-given, length-numbers-at}
-use Rattle.record_format.proofs.Readable.{Readable, length-row-in, length-image}
+use Rattle.record_format.proofs.Readable.{Readable, length-row-in, length-image, image-good}
 use Rattle.record_format.proofs.Holds.{numbers-hold, field-holds}
 
 module _ (b : List ℕ) (small : Bytes b) (room : ℕ) (r : Readable b room) (four : maskSaid b ≡ 4) where
@@ -93,13 +90,6 @@ module _ (b : List ℕ) (small : Bytes b) (room : ℕ) (r : Readable b room) (fo
       sym (holds-all b (one ++ (two ++ (three ++ (rows ++ five)))) all (length-record (shapeIn b) (imageIn b) (length-image b) ∙ length-back))
 
   -- what writing it is answered
-  image-good : length (imageIn b) ≤ firstBad (isReading (cycleIn b)) (imageIn b)
-  unfolding imageIn
-  image-good =
-      let P : (ℕ → Type 0) = λ y. isReading (cycleIn b) y ≡ true in
-      good-all (isReading (cycleIn b)) (joined (rowIn b) 0 (rowsIn b))
-      (each-of-joined (rowIn b) P 0 (rowsIn b) (λ i g h. all-good (isReading (cycleIn b)) (rowIn b i) (r .rows i (omega arith) .good)))
-
   pub read-written : (space : ℕ) → length b ≤ space → writeCall (shapeIn b) (imageIn b) space ≡ accepted (length b)
   unfolding writeCall
   read-written space h =
@@ -108,6 +98,6 @@ module _ (b : List ℕ) (small : Bytes b) (room : ℕ) (r : Readable b room) (fo
       clear-accepted (recordLength s) (writeRules s image space)
       (clear-join (shapeRules longestCycle s) (callRules s image space) (r .shape) (
         rw (eq-eqb (length image) (area s) (length-image b)),
-        (le-ltb space (recordLength s) (omega (arith, length-back)), (le-ltb (firstBad (isReading (cycleIn b)) image) (length image) image-good, tt)),
+        (le-ltb space (recordLength s) (omega (arith, length-back)), (le-ltb (firstBad (isReading (cycleIn b)) image) (length image) (image-good b room r), tt)),
       ))
       ∙ ap accepted length-back

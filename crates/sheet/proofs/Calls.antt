@@ -1,18 +1,21 @@
--- What a call of the filter and of the reader make of the sheet's outcome. Assumes nothing.
+-- Laws of the sheet's outcome: 14, then the reader, then the filter; and what is left by a sheet that is accepted. Assumes nothing.
 use Prim.Native.Nat.{ℕ, _*_, _≤_, _<_}
 use mathlib.Core.Path.{_≡_, refl, ap, sym, subst, _∙_}
-use mathlib.Core.List.{List}
+use mathlib.Core.List.{List, _++_}
 use native.Mathlib.Omega.{arith}
+use native.Mathlib.Decide.{decLt}
 use borrow.Author.Tests.{lt-ltb, le-ltb}
 use lib.ListN.{length, take, drop, length-append}
 use lib.Seq.{take-at}
+use Rattle.lists.specs.First.{firstBad}
 use Rattle.lists.proofs.Written.{length-written}
 use Rattle.refusal.specs.Limits.{longestCycle, mostRows, mostColumns}
 use Rattle.refusal.specs.declared.Refusal.{Refusal}
 use Rattle.refusal.specs.Table.{numberOf, placeOf}
-use Rattle.refusal.specs.Outcome.{Outcome, Clear, leaves}
+use Rattle.refusal.specs.Outcome.{Outcome, Clear, firstDue, refusal, andThen}
 use Rattle.refusal.specs.Outcome.Outcome.{accepted, refused}
-use Rattle.refusal.proofs.Outcome.{accepted-value}
+use Rattle.refusal.proofs.Outcome.{accepted-clear, accepted-value}
+use Rattle.cycle.specs.Distance.{isReading}
 use Rattle.cycle.specs.Calls.{rowRules}
 use Rattle.shape.specs.Rules.{area}
 use Rattle.shape.specs.declared.Shape.{Shape}
@@ -20,113 +23,136 @@ use Rattle.window.specs.Phase.{phaseAt}
 use Rattle.window.specs.Ready.{Ready}
 use Rattle.window.proofs.Window.{sizes}
 use Rattle.filter.specs.declared.FilterAnswer.{FilterAnswer}
-use Rattle.filter.specs.declared.FilterAnswer.the-variants.{Filtered, Refused}
-use Rattle.filter.specs.Calls.{limit, need, filterTold, filteredRows, zeroedWork, Call}
-use Rattle.filter.proofs.CallLaws.{Image, call-tested, call-ready, limit-fits}
+use Rattle.filter.specs.Calls.{limit, need, filterTold, filteredRows, zeroedWork, roomCall, Call}
+use Rattle.filter.proofs.CallLaws.{Image, call-tested, call-ready, limit-fits, good-image}
 use Rattle.record_format.specs.Reading.{shapeIn, imageIn, readRules, readCall}
-use Rattle.record_format.proofs.Readable.{length-image}
+use Rattle.record_format.proofs.Readable.{readable, length-image, image-good}
+use Rattle.record.specs.declared.ReadAnswer.{ReadAnswer}
 use Rattle.record.specs.Calls.{Reads}
-use Rattle.record.specs.declared.ReadAnswer.the-variants.{Read}
 use Rattle.record.proofs.Left.{left-accepted}
 use Rattle.text.specs.Text.{Laid}
-use Rattle.record.specs.declared.ReadAnswer.the-variants as reads
-use Rattle.sheet.specs.Sheet.{mostBytes, engineFor, refusalLine, imageLines, filteredImage, filteredCall, thenAs, sheetCall, sheetText, afterwards, rowOf, ImageSheet, Sheet}
+use Rattle.sheet_lines.specs.Lines.{refusalLine, rowOf, imageLines}
+use Rattle.sheet.specs.declared.SheetAnswer.the-variants as sheets
+use Rattle.sheet.specs.Sheet.{mostBytes, engineFor, lengthCall, filteredCall, filteredImage, sheetCall, RecordFiltered, SheetWith, Sheet}
 use Rattle.sheet.proofs.Rows.{output-lines, output-phases}
 
--- a call of the engine that was chosen
-module _ {s : Shape} {image output work output₁ work₁ : List ℕ} {r : FilterAnswer}
-    (call : Call (engineFor s (length work)) s 0 (s .rows) image output work r output₁ work₁) where
-  told : filterTold r ≡ filteredCall s image (length output) (length work)
+-- a record that was read: its image has the size of its shape, and its readings are good
+record Good (bytes : List ℕ) (s : Shape) : Type 0 where
+  size : length (imageIn bytes) ≡ area s
+  good : length (imageIn bytes) ≤ firstBad (isReading (s .cycle)) (imageIn bytes)
+
+read-good : (bytes : List ℕ) (room : ℕ) (s : Shape) → readCall bytes room ≡ accepted s → Good bytes s
+unfolding readCall
+read-good bytes room s said =
+    let clear = accepted-clear (shapeIn bytes) (readRules bytes room) s said in
+    let s-is = accepted-value (shapeIn bytes) (readRules bytes room) s said in
+    record { size = length-image bytes ∙ ap area (sym s-is); good = rw s-is (image-good bytes room (readable bytes room clear)) }
+
+module _ (bytes : List ℕ) (readings output work : ℕ) where
+  -- too long
+  pub long-call : mostBytes < length bytes → sheetCall bytes readings output work ≡ refused 14 0
+  unfolding sheetCall firstDue
+  long-call h = rw (lt-ltb mostBytes (length bytes) h)
+
+  short-call : length bytes ≤ mostBytes
+      → sheetCall bytes readings output work
+      ≡ andThen (readCall bytes readings) (λ s. andThen (filteredCall s (imageIn bytes) output work) (λ u. accepted s))
+  unfolding sheetCall firstDue
+  short-call h = rw (le-ltb mostBytes (length bytes) h)
+
+  -- refused by the reader
+  pub unread-call : {n k : ℕ} → length bytes ≤ mostBytes → readCall bytes readings ≡ refused n k → sheetCall bytes readings output work ≡ refused n k
+  unread-call h said = short-call h ∙ rw said
+
+  -- read, and then refused only for want of memory
+  pub read-call : (s : Shape) → length bytes ≤ mostBytes → readCall bytes readings ≡ accepted s
+      → sheetCall bytes readings output work ≡ andThen (roomCall (engineFor s work) s output work) (λ u. accepted s)
   unfolding filteredCall
-  told = call .answer
+  read-call s h said =
+      let g = read-good bytes readings s said in
+      short-call h
+      ∙ rw (said, good-image (engineFor s work) s 0 (s .rows) (imageIn bytes) output work (omega arith) (omega arith) (g .size) (g .good))
 
-  output-is : output₁ ≡ leaves (filteredCall s image (length output) (length work)) (filteredRows s 0 (s .rows) image output) output
-  output-is = call .output ∙ ap (λ (o : Outcome Unit). leaves o (filteredRows s 0 (s .rows) image output) output) told
+  -- What it says that a sheet is accepted.
+  pub record Accepted (s : Shape) : Type 0 where
+    pub short : length bytes ≤ mostBytes
+    pub read : readCall bytes readings ≡ accepted s
+    pub filtered : filteredCall s (imageIn bytes) output work ≡ accepted tt
 
-  work-is : work₁ ≡ leaves (filteredCall s image (length output) (length work)) (zeroedWork (engineFor s (length work)) s work) work
-  work-is = call .work ∙ ap (λ (o : Outcome Unit). leaves o (zeroedWork (engineFor s (length work)) s work) work) told
+  pub sheet-accepted : (s : Shape) → sheetCall bytes readings output work ≡ accepted s → Accepted s
+  sheet-accepted s said = go (decLt mostBytes (length bytes))
+    where
+      filtered : (t : Shape) (o : Outcome Unit) → length bytes ≤ mostBytes → readCall bytes readings ≡ accepted t
+          → filteredCall t (imageIn bytes) output work ≡ o → andThen o (λ u. accepted t) ≡ accepted s → Accepted s
+      filtered t (accepted u) h r f e =
+          let t-is : t ≡ s = cc in
+          record { short = h; read = rw t-is at r; filtered = rw t-is at f }
+      filtered t (refused n k) h r f e = let z : _≡_ {A = ℕ} 0 1 = cc in absurd (omega arith)
 
-  sheet-of : {text text₁ : List ℕ} {next : ℕ} → Laid text 0 (sheetText (thenAs (filterTold r) s) image) next text₁ → ImageSheet s image output work text next output₁ work₁ text₁
-  sheet-of {text} {text₁} {next} l = record {
-    text = subst (λ (o : Outcome Unit). Laid text 0 (sheetText (thenAs o s) image) next text₁) told l;
-    output = output-is;
-    work = work-is;
-  }
+      read : (o : Outcome Shape) → length bytes ≤ mostBytes → readCall bytes readings ≡ o
+          → andThen o (λ s. andThen (filteredCall s (imageIn bytes) output work) (λ u. accepted s)) ≡ accepted s → Accepted s
+      read (accepted t) h r e = filtered t (filteredCall t (imageIn bytes) output work) h r refl e
+      read (refused n k) h r e = let z : _≡_ {A = ℕ} 0 1 = cc in absurd (omega arith)
 
-  pub refused-sheet : {text text₁ : List ℕ} {next : ℕ} {f : Refusal} → r ≡ Refused f → Laid text 0 (refusalLine (numberOf f) (placeOf f)) next text₁
-      → ImageSheet s image output work text next output₁ work₁ text₁
-  refused-sheet is l = sheet-of (rw is l)
+      go : Dec (mostBytes < length bytes) → Accepted s
+      go (yes h) = let e = sym (long-call h) ∙ said in let z : _≡_ {A = ℕ} 0 1 = cc in absurd (omega arith)
+      go (no h) = let g : length bytes ≤ mostBytes = omega arith in read (readCall bytes readings) g refl (sym (short-call g) ∙ said)
 
-  pub filtered-sheet : {text text₁ : List ℕ} {next : ℕ} → r ≡ Filtered → Laid text 0 (imageLines s (filteredImage s image)) next text₁ → ImageSheet s image output work text next output₁ work₁ text₁
-  filtered-sheet is l = sheet-of (rw is l)
+-- What reading and filtering such a record leaves.
+module _ (bytes readings output work : List ℕ) {s : Shape} (a : Accepted bytes (length readings) (length output) (length work) s) where
+  module _ {r : ReadAnswer} {readings₁ : List ℕ} (reads : Reads bytes readings r readings₁) where
+    pub stored : readings₁ ≡ imageIn bytes ++ drop (area s) readings
+    stored = reads .memory ∙ left-accepted (imageIn bytes) readings (a .read) ∙ rw (read-good bytes (length readings) s (a .read) .size)
 
--- where it was accepted: the rows of the output have drifts, and are those of the filtered image
-module _ {s : Shape} {image output work output₁ work₁ : List ℕ}
-    (call : Call (engineFor s (length work)) s 0 (s .rows) image output work Filtered output₁ work₁) where
-  tested : Image s (need (engineFor s (length work)) s) 0 (s .rows) image (length output) (length work)
-  tested = call-tested (engineFor s (length work)) s 0 (s .rows) image (length output) (length work) (sym (call .answer))
+    -- the image stands at the front
+    pub image-stored : (area s ≤ length readings₁) × (take (area s) readings₁ ≡ imageIn bytes)
+    image-stored =
+        let size = read-good bytes (length readings) s (a .read) .size in (
+          omega (arith, ap length stored, length-append (imageIn bytes) (drop (area s) readings), size),
+          ap (take (area s)) stored ∙ take-at (imageIn bytes) _ (area s) size,
+        )
 
-  ready : Ready (limit (engineFor s (length work))) s image
-  ready = call-ready (engineFor s (length work)) s 0 (s .rows) image (length output) (length work) (sym (call .answer))
+  pub filtered-rows : {r : FilterAnswer} {output₁ work₁ : List ℕ} → Call (engineFor s (length work)) s 0 (s .rows) (imageIn bytes) output work r output₁ work₁
+      → (output₁ ≡ filteredRows s 0 (s .rows) (imageIn bytes) output) × (work₁ ≡ zeroedWork (engineFor s (length work)) s work)
+  unfolding filteredCall
+  filtered-rows call =
+      let told = call .answer ∙ a .filtered in
+      (rw told at (call .output), rw told at (call .work))
+
+  tested : Image s (need (engineFor s (length work)) s) 0 (s .rows) (imageIn bytes) (length output) (length work)
+  unfolding filteredCall
+  tested = call-tested (engineFor s (length work)) s 0 (s .rows) (imageIn bytes) (length output) (length work) (a .filtered)
+
+  ready : Ready (limit (engineFor s (length work))) s (imageIn bytes)
+  unfolding filteredCall
+  ready = call-ready (engineFor s (length work)) s 0 (s .rows) (imageIn bytes) (length output) (length work) (a .filtered)
 
   fits : limit (engineFor s (length work)) ≤ longestCycle
   fits = limit-fits (engineFor s (length work))
 
-  pub accepted-sizes : (s .rows ≤ mostRows) × (s .columns ≤ mostColumns) × (area s ≤ length output₁)
-  accepted-sizes =
-      let k = sizes ready fits in
-      let len : length output₁ ≡ length output = ap length (call .output)
-      ∙ length-written (phaseAt s image) (0 * s .columns) (s .rows * s .columns) output (omega arith) (tested .output-room) in
-      (k .rows-fit, k .columns-fit, omega (arith, len, tested .output-room))
+  -- The rows of the output have drifts, and are those of the filtered image.
+  module _ {output₁ : List ℕ} (is : output₁ ≡ filteredRows s 0 (s .rows) (imageIn bytes) output) where
+    pub output-sizes : (s .rows ≤ mostRows) × (s .columns ≤ mostColumns) × (area s ≤ length output₁)
+    output-sizes =
+        let k = sizes ready fits in
+        let len : length output₁ ≡ length output = ap length is
+        ∙ length-written (phaseAt s (imageIn bytes)) (0 * s .columns) (s .rows * s .columns) output (omega arith) (tested .output-room) in
+        (k .rows-fit, k .columns-fit, omega (arith, len, tested .output-room))
 
-  pub accepted-phases : (i : ℕ) → i < s .rows → Clear (rowRules (s .cycle) (rowOf s output₁ i))
-  accepted-phases i h = rw (call .output) (output-phases ready fits output (tested .output-room) i h)
+    pub output-clear : (i : ℕ) → i < s .rows → Clear (rowRules (s .cycle) (rowOf s output₁ i))
+    output-clear i h = rw is (output-phases ready fits output (tested .output-room) i h)
 
-  pub accepted-lines : imageLines s output₁ ≡ imageLines s (filteredImage s image)
-  accepted-lines = ap (imageLines s) (call .output) ∙ output-lines ready fits output (tested .output-room)
+    pub output-text : imageLines s output₁ ≡ imageLines s (filteredImage s (imageIn bytes))
+    output-text = ap (imageLines s) is ∙ output-lines ready fits output (tested .output-room)
 
-then-leaves : (o : Outcome Unit) (s : Shape) (f : Shape → List ℕ) (old : List ℕ) → leaves o (f s) old ≡ afterwards (thenAs o s) f old
-then-leaves (accepted r) s f old = refl
-then-leaves (refused number place) s f old = refl
-
--- Of a record: too long, refused by the reader, or read and handed on.
+-- The two ends of a sheet.
 module _ {bytes readings output work text text₁ : List ℕ} {next : ℕ} where
-  pub long-sheet : mostBytes < length bytes → Laid text 0 (refusalLine 14 0) next text₁ → Sheet bytes readings output work text next readings output work text₁
-  unfolding sheetCall
-  long-sheet h l =
-      let e = lt-ltb mostBytes (length bytes) h in
-      record { text = rw e l; readings = rw e; output = rw e; work = rw e }
-
-  pub unread-sheet : {readings₁ : List ℕ} {f : Refusal} → length bytes ≤ mostBytes → Reads bytes readings (reads.Refused f) readings₁
+  pub refused-sheet : {f : Refusal} → sheetCall bytes (length readings) (length output) (length work) ≡ refusal f
       → Laid text 0 (refusalLine (numberOf f) (placeOf f)) next text₁
-      → Sheet bytes readings output work text next readings₁ output work text₁
-  unfolding sheetCall
-  unread-sheet h r l =
-      let e = le-ltb mostBytes (length bytes) h in
-      record { text = rw (e, ← (r .answer)) l; readings = rw e (r .memory); output = rw (e, ← (r .answer)); work = rw (e, ← (r .answer)) }
+      → Sheet bytes readings output work text (sheets.Refused f next) readings output work text₁
+  refused-sheet said l = rw said (record { answer = refl; text = l; readings = refl; output = refl; work = refl })
 
-  pub read-sheet : {s : Shape} {readings₁ output₁ work₁ : List ℕ} → length bytes ≤ mostBytes → Reads bytes readings (Read s) readings₁
-      → ImageSheet s (imageIn bytes) output work text next output₁ work₁ text₁
-      → Sheet bytes readings output work text next readings₁ output₁ work₁ text₁
-  unfolding sheetCall
-  read-sheet {s} h r i =
-      let e = le-ltb mostBytes (length bytes) h in
-      let o = filteredCall s (imageIn bytes) (length output) (length work) in
-      record {
-        text = rw (e, ← (r .answer)) (i .text);
-        readings = rw e (r .memory);
-        output = rw (e, ← (r .answer)) (i .output ∙ then-leaves o s (λ s. filteredRows s 0 (s .rows) (imageIn bytes) output) output);
-        work = rw (e, ← (r .answer)) (i .work ∙ then-leaves o s (λ s. zeroedWork (engineFor s (length work)) s work) work);
-      }
-
--- the readings that were stored are the record's image
-pub read-image : {bytes readings readings₁ : List ℕ} {s : Shape} → Reads bytes readings (Read s) readings₁
-    → (area s ≤ length readings₁) × (take (area s) readings₁ ≡ imageIn bytes)
-unfolding readCall
-read-image {bytes} {readings} {readings₁} {s} r =
-    let s-is = accepted-value (shapeIn bytes) (readRules bytes (length readings)) s (sym (r .answer)) in
-    let all = r .memory ∙ left-accepted (imageIn bytes) readings (sym (r .answer)) in
-    let len : length (imageIn bytes) ≡ area s = length-image bytes ∙ ap area (sym s-is) in (
-      omega (arith, ap length all, length-append (imageIn bytes) (drop (length (imageIn bytes)) readings), len),
-      ap (take (area s)) all ∙ take-at (imageIn bytes) _ (area s) len,
-    )
+  pub printed-sheet : {s : Shape} {readings₁ output₁ work₁ : List ℕ} → sheetCall bytes (length readings) (length output) (length work) ≡ accepted s
+      → RecordFiltered s bytes readings output work readings₁ output₁ work₁ → Laid text 0 (imageLines s (filteredImage s (imageIn bytes))) next text₁
+      → Sheet bytes readings output work text (sheets.Printed next) readings₁ output₁ work₁ text₁
+  printed-sheet said f l = rw said (record { answer = refl; text = l; readings = f .readings; output = f .output; work = f .work })

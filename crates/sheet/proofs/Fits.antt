@@ -1,10 +1,8 @@
 -- Every sheet has at most 65,536 bytes, so a text memory of that size holds all of it. Assumes nothing.
-use Prim.Native.Nat.{ℕ, _+_, _*_, _≤_, _<_}
+use Prim.Native.Nat.{ℕ, _+_, _*_, _≤_}
 use mathlib.Core.Path.{_≡_, refl, sym, _∙_}
 use mathlib.Core.List.{List, _++_}
 use native.Mathlib.Omega.{arith}
-use native.Mathlib.Decide.{decLt}
-use borrow.Author.Tests.{lt-ltb, le-ltb}
 use lib.ListN.{length, drop}
 use Rattle.lists.proofs.Tabulate.{length-tabulate}
 use Rattle.refusal.specs.Limits.{longestCycle}
@@ -21,9 +19,12 @@ use Rattle.filter.proofs.CallLaws.{call-ready, limit-fits}
 use Rattle.record_format.specs.Reading.{shapeIn, imageIn, rowAt, readRules, readCall}
 use Rattle.record_format.proofs.Readable.{readable}
 use Rattle.text.proofs.TextLaws.{laid-front}
-use Rattle.sheet.specs.Sheet.{mostBytes, engineFor, imageLines, filteredImage, filteredCall, thenAs, onward, sheetCall, sheetText, Sheet}
+use Rattle.sheet_lines.specs.Lines.{imageLines}
+use Rattle.sheet_lines.proofs.Lengths.{refusal-short, lines-short}
+use Rattle.sheet.specs.declared.SheetAnswer.{SheetAnswer}
+use Rattle.sheet.specs.Sheet.{mostBytes, mostText, engineFor, filteredImage, filteredCall, sheetCall, sheetText, textLength, Sheet}
 use Rattle.sheet.proofs.Rows.{output-lines, output-phases}
-use Rattle.sheet.proofs.Lengths.{refusal-short, lines-short}
+use Rattle.sheet.proofs.Calls.{sheet-accepted}
 
 -- the rows of a record that was read lie within it
 read-within : (bytes : List ℕ) (readings : ℕ) (s : Shape) → readCall bytes readings ≡ accepted s → s .rows * (3 + 2 * s .columns) ≤ length bytes
@@ -36,7 +37,7 @@ read-within bytes readings s said =
 -- an image that was filtered
 filtered-short : (s : Shape) (image : List ℕ) (output work : ℕ) → s .rows * (3 + 2 * s .columns) ≤ mostBytes
     → filteredCall s image output work ≡ accepted tt
-    → length (imageLines s (filteredImage s image)) ≤ 65536
+    → length (imageLines s (filteredImage s image)) ≤ mostText
 unfolding filteredCall
 filtered-short s image output work bytes said =
     let engine = engineFor s work in
@@ -48,30 +49,26 @@ filtered-short s image output work bytes said =
     (lines-short s _ (k .rows-fit) (k .columns-fit) bytes (output-phases ready fits (filteredImage s image) room))
 
 -- every sheet has at most 65,536 bytes
-pub sheet-fits : (bytes : List ℕ) (readings output work : ℕ) → length (sheetText (sheetCall bytes readings output work) (imageIn bytes)) ≤ 65536
-unfolding sheetCall
-sheet-fits bytes readings output work = go (decLt mostBytes (length bytes))
+pub sheet-fits : (bytes : List ℕ) (readings output work : ℕ) → length (sheetText (sheetCall bytes readings output work) (imageIn bytes)) ≤ mostText
+sheet-fits bytes readings output work = go (sheetCall bytes readings output work) refl
   where
-    filtered : (s : Shape) (o : Outcome Unit) → filteredCall s (imageIn bytes) output work ≡ o → s .rows * (3 + 2 * s .columns) ≤ mostBytes
-        → length (sheetText (thenAs o s) (imageIn bytes)) ≤ 65536
-    filtered s (accepted r) said h = filtered-short s (imageIn bytes) output work h said
-    filtered s (refused number place) said h = omega (arith, refusal-short number place)
+    go : (o : Outcome Shape) → sheetCall bytes readings output work ≡ o → length (sheetText o (imageIn bytes)) ≤ mostText
+    go (accepted s) said =
+        let a = sheet-accepted bytes readings output work s said in
+        filtered-short s (imageIn bytes) output work (omega (arith, a .short, read-within bytes readings s (a .read))) (a .filtered)
+    go (refused number place) said = omega (arith, refusal-short number place)
 
-    read : (o : Outcome Shape) → readCall bytes readings ≡ o → length bytes ≤ mostBytes
-        → length (sheetText (onward o (imageIn bytes) output work) (imageIn bytes)) ≤ 65536
-    read (accepted s) said h = filtered s (filteredCall s (imageIn bytes) output work) refl (omega (arith, read-within bytes readings s said))
-    read (refused number place) said h = omega (arith, refusal-short number place)
+module _ {bytes readings output work text : List ℕ} {r : SheetAnswer} {readings₁ output₁ work₁ text₁ : List ℕ}
+    (sheet : Sheet bytes readings output work text r readings₁ output₁ work₁ text₁) where
+  -- the length that is told is that of the whole text
+  pub told-length : textLength r ≡ length (sheetText (sheetCall bytes (length readings) (length output) (length work)) (imageIn bytes))
+  told-length = omega (arith, sheet .text .after)
 
-    go : Dec (mostBytes < length bytes) → length (sheetText (sheetCall bytes readings output work) (imageIn bytes)) ≤ 65536
-    go (yes h) = rw (lt-ltb mostBytes (length bytes) h) (omega (arith, refusal-short 14 0))
-    go (no h) = rw (le-ltb mostBytes (length bytes) (omega arith)) (read (readCall bytes readings) refl (omega arith))
+  pub told-fits : textLength r ≤ mostText
+  told-fits = omega (arith, told-length, sheet-fits bytes (length readings) (length output) (length work))
 
--- so all of it stands in a text memory of that size, from the start on, and the rest of that memory is as it was
-pub sheet-whole : (bytes readings output work text : List ℕ) {next : ℕ} {readings₁ output₁ work₁ text₁ : List ℕ}
-    → Sheet bytes readings output work text next readings₁ output₁ work₁ text₁ → 65536 ≤ length text
-    → (next ≡ length (sheetText (sheetCall bytes (length readings) (length output) (length work)) (imageIn bytes)))
-    × (text₁ ≡ sheetText (sheetCall bytes (length readings) (length output) (length work)) (imageIn bytes)
-    ++ drop (length (sheetText (sheetCall bytes (length readings) (length output) (length work)) (imageIn bytes))) text)
-sheet-whole bytes readings output work text sheet room =
-    let all = laid-front (sheet .text) (omega (arith, sheet-fits bytes (length readings) (length output) (length work))) in
-    (all .1, all .0)
+  -- so all of it stands in a text memory of that size, from the start on, and the rest of that memory is as it was
+  pub sheet-whole : mostText ≤ length text
+      → text₁ ≡ sheetText (sheetCall bytes (length readings) (length output) (length work)) (imageIn bytes) ++ drop (textLength r) text
+  sheet-whole room =
+      rw told-length (laid-front (sheet .text) (omega (arith, sheet-fits bytes (length readings) (length output) (length work))))

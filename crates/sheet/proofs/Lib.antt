@@ -1,6 +1,3 @@
-pub mod WordLaws
 pub mod Rows
-pub mod Drifts
 pub mod Calls
-pub mod Lengths
 pub mod Fits

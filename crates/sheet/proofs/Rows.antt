@@ -25,7 +25,8 @@ use Rattle.window.specs.Ready.{Ready}
 use Rattle.window.specs.Phase.{phase, phaseAt}
 use Rattle.window.proofs.Window.{sizes, centre-below}
 use Rattle.window.proofs.Phase.{phase-at}
-use Rattle.sheet.specs.Sheet.{headLine, rowLine, rowOf, filteredImage, imageLines}
+use Rattle.sheet_lines.specs.Lines.{headLine, rowLine, rowOf, imageLines}
+use Rattle.sheet.specs.Sheet.{filteredImage}
 
 -- a row of an image, by its numbers
 row-is : (n : ℕ) (l : List ℕ) (k : ℕ) (f : ℕ → ℕ) → k + n ≤ length l → ((j : ℕ) → j < n → getD l (k + j) 0 ≡ f (k + j)) → take n (drop k l) ≡ tabulate f k n

@@ -1,22 +1,45 @@
 // The bench sheet of document 01 as a function from the bytes of a record to the bytes of a text, over
-// lent memory. What the program prints is what stands here.
-mod layout;
-
+// lent memory. What the program prints is what stands here. All is tested before anything is stored: a
+// refused sheet changes nothing but the text, which is the call's product.
 use filter::Engine;
-use filter::FilterAnswer;
-use layout::put_lines;
-use layout::put_refusal;
+use filter::room_verdict;
 use record::ReadAnswer;
 use refusal::Refusal;
+use refusal::Verdict;
 use refusal::limits::LEVEL_CYCLE;
 use shape::Shape;
+use sheet_lines::put_lines;
+use sheet_lines::put_refusal;
 ghost use mathlib.Core.Path.{_≡_};
 ghost use Prim.Native.Nat.{_≤_};
 ghost use lib.ListN.{length};
-ghost use Rattle.sheet.specs.Sheet.{engineFor, ImageSheet, Sheet};
+ghost use Rattle.refusal.specs.Outcome.{andThen};
+ghost use Rattle.refusal.specs.Outcome.Outcome.{accepted};
+ghost use Rattle.filter.specs.Calls.{roomCall};
+ghost use Rattle.record.specs.Calls.{readTold};
+ghost use Rattle.sheet.specs.Sheet.{mostText, engineFor, sheetCall, textLength, RecordFiltered, Sheet};
 
 // A record above so many bytes is refused.
 pub const MOST_BYTES: usize = 16384;
+
+// No text is longer than this.
+pub const MOST_TEXT: usize = 65536;
+
+// The length of the whole text. Where it is above that of the text memory, the text was cut.
+pub enum SheetAnswer {
+    Printed(usize),
+    Refused(Refusal, usize),
+}
+
+// The length of the whole text, whatever the answer is.
+pub fn text_length(answer: SheetAnswer) -> usize
+    ensures { λ r. ⌜ r ≡ textLength answer ⌝ }
+{
+    match answer {
+        SheetAnswer::Printed(n) => n,
+        SheetAnswer::Refused(_, n) => n,
+    }
+}
 
 // The engine for an image, with so many numbers of work memory.
 fn engine_for(shape: Shape, room: usize) -> Engine
@@ -31,43 +54,71 @@ fn engine_for(shape: Shape, room: usize) -> Engine
     Engine::Level
 }
 
-// The sheet of an image.
-fn image_sheet(
-    shape: Shape,
-    image: &[u16],
-    output: &mut [u16],
-    work: &mut [u32],
-    text: &mut [u8],
-) -> usize
-    ensures { λ r. ⌜ ImageSheet shape (now (image .entry)) (now (output .entry)) (now (work .entry)) (now (text .entry)) r (now (output .exit)) (now (work .exit)) (now (text .exit)) ⌝ }
+// The filter's tests of a good image: its shape, if there is room to filter it.
+fn room_answer(shape: Shape, output: usize, work: usize) -> ReadAnswer
+    ensures { λ r. ⌜ readTold r ≡ andThen (roomCall (engineFor shape work) shape output work) (λ u. accepted shape) ⌝ }
 {
-    let engine = engine_for(shape, work.len());
-    match filter::run(engine, shape, 0, shape.rows, image, output, work) {
-        FilterAnswer::Refused(f) => put_refusal(text, f),
-        FilterAnswer::Filtered => put_lines(text, shape, output),
+    match room_verdict(engine_for(shape, work), shape, output, work) {
+        Verdict::Refused(f) => ReadAnswer::Refused(f),
+        Verdict::Passed => ReadAnswer::Read(shape),
     }
 }
 
-// The sheet of a record, or the line of its refusal; returns the number of bytes that were laid.
+// All tests of a sheet, for buffers of so many numbers: 14, then the reader's, then the filter's.
+fn sheet_verdict(bytes: &[u8], readings: usize, output: usize, work: usize) -> ReadAnswer
+    ensures { λ r. ⌜ readTold r ≡ sheetCall (now (bytes .entry)) readings output work ⌝ }
+{
+    if MOST_BYTES < bytes.len() {
+        return ReadAnswer::Refused(Refusal::Record);
+    }
+    match record::look(bytes, readings) {
+        ReadAnswer::Refused(f) => ReadAnswer::Refused(f),
+        ReadAnswer::Read(shape) => room_answer(shape, output, work),
+    }
+}
+
+// Reads and filters a record that has passed the tests.
+fn filter_record(
+    shape: Shape,
+    bytes: &[u8],
+    readings: &mut [u16],
+    output: &mut [u16],
+    work: &mut [u32],
+)
+    requires { ⌜ sheetCall (now bytes) (length (now readings)) (length (now output)) (length (now work)) ≡ accepted shape ⌝ }
+    ensures { λ _. ⌜ RecordFiltered shape (now (bytes .entry)) (now (readings .entry)) (now (output .entry)) (now (work .entry)) (now (readings .exit)) (now (output .exit)) (now (work .exit)) ⌝ }
+{
+    let start = 0;
+    let area = (shape.rows as usize) * (shape.columns as usize);
+    let engine = engine_for(shape, work.len());
+    record::read(bytes, readings);
+    filter::run(
+        engine,
+        shape,
+        0,
+        shape.rows,
+        &readings[start..area],
+        output,
+        work,
+    );
+}
+
+// The sheet of a record, or the line of its refusal.
 pub fn sheet(
     bytes: &[u8],
     readings: &mut [u16],
     output: &mut [u16],
     work: &mut [u32],
     text: &mut [u8],
-) -> usize
+) -> SheetAnswer
     ensures { λ r. ⌜ Sheet (now (bytes .entry)) (now (readings .entry)) (now (output .entry)) (now (work .entry)) (now (text .entry)) r (now (readings .exit)) (now (output .exit)) (now (work .exit)) (now (text .exit)) ⌝ }
-    ensures { λ r. ⌜ r ≤ length (now (text .entry)) ⌝ }
+    ensures { λ r. ⌜ textLength r ≤ mostText ⌝ }
 {
-    if MOST_BYTES < bytes.len() {
-        return put_refusal(text, Refusal::Record);
-    }
-    match record::read(bytes, readings) {
-        ReadAnswer::Refused(f) => put_refusal(text, f),
+    match sheet_verdict(bytes, readings.len(), output.len(), work.len()) {
+        ReadAnswer::Refused(f) => SheetAnswer::Refused(f, put_refusal(text, f)),
         ReadAnswer::Read(shape) => {
-            let start = 0;
-            let area = (shape.rows as usize) * (shape.columns as usize);
-            image_sheet(shape, &readings[start..area], output, work, text)
+            filter_record(shape, bytes, readings, output, work);
+            SheetAnswer::Printed(put_lines(text, shape, output))
         }
     }
 }

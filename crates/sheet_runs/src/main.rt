@@ -5,8 +5,12 @@
 // call and never cleared, so a record finds in it what those before it left.
 use libc::STDIN_FILENO;
 use libc::STDOUT_FILENO;
+use sheet::MOST_TEXT;
+use sheet_stdio::print_sheet;
 ghost use mathlib.Core.Path.{_≡_};
 ghost use Prim.Native.Nat.{_+_, _≤_, min};
+ghost use lib.ListN.{length};
+ghost use Rattle.sheet.specs.Sheet.{mostText};
 
 fn joined(high: u8, low: u8) -> usize {
     high as usize * 256 + low as usize
@@ -38,25 +42,15 @@ fn say_index(k: usize) {
     io::write_all(STDOUT_FILENO, b"\n");
 }
 
-fn print_sheet(
-    record: &[u8],
-    readings: &mut [u16],
-    output: &mut [u16],
-    work: &mut [u32],
-    text: &mut [u8],
-) {
-    let start = 0;
-    let end = sheet::sheet(record, readings, output, work, text);
-    io::write_all(STDOUT_FILENO, &text[start..end]);
-}
-
 fn print_all(
     bytes: &[u8],
     readings: &mut [u16],
     output: &mut [u16],
     work: &mut [u32],
     text: &mut [u8],
-) {
+)
+    requires { ⌜ mostText ≤ length (now text) ⌝ }
+{
     let mut k = 0;
     let mut at = 0;
     while at < bytes.len() {
@@ -74,7 +68,7 @@ fn main() {
     let mut readings = [60000u16; 8192];
     let mut output = [60000u16; 8192];
     let mut work = [4000000000u32; 16384];
-    let mut text = [63u8; 65536];
+    let mut text = [63u8; MOST_TEXT];
     let n = io::read_full(STDIN_FILENO, &mut bytes);
     print_all(
         &bytes[..n],

@@ -1,0 +1,45 @@
+// The bench sheet from standard input to standard output: here the bytes are read, the memory is lent, and
+// the text is written. All that is printed is laid out by `sheet`, which is proved. A program over this
+// calls one function.
+use libc::STDIN_FILENO;
+use libc::STDOUT_FILENO;
+use sheet::MOST_TEXT;
+use sheet::sheet;
+use sheet::text_length;
+ghost use Prim.Native.Nat.{_≤_};
+ghost use lib.ListN.{length};
+ghost use Rattle.sheet.specs.Sheet.{mostText};
+
+// Prints the sheet of a record, or the line of its refusal.
+pub fn print_sheet(
+    record: &[u8],
+    readings: &mut [u16],
+    output: &mut [u16],
+    work: &mut [u32],
+    text: &mut [u8],
+)
+    requires { ⌜ mostText ≤ length (now text) ⌝ }
+{
+    let start = 0;
+    let end = text_length(sheet(record, readings, output, work, text));
+    io::write_all(STDOUT_FILENO, &text[start..end]);
+}
+
+// Prints the sheet of the record that standard input holds. A record has at most 16,384 bytes, so one byte
+// more is read and no further: by that length alone `sheet` refuses what is too long. The memory has the
+// paper's sizes.
+pub fn print_input() {
+    let mut record = [0u8; 16385];
+    let mut readings = [0u16; 8192];
+    let mut output = [0u16; 8192];
+    let mut work = [0u32; 16384];
+    let mut text = [0u8; MOST_TEXT];
+    let n = io::read_full(STDIN_FILENO, &mut record);
+    print_sheet(
+        &record[..n],
+        &mut readings,
+        &mut output,
+        &mut work,
+        &mut text,
+    );
+}
