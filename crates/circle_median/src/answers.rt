@@ -1,13 +1,11 @@
 // The structs that C sees, and what the calls take and answer turned into theirs.
 use filter::FilterAnswer;
-use record::ReadAnswer;
 use refusal::Refusal;
 use shape::Shape;
 ghost use mathlib.Core.Path.{_≡_};
 ghost use Rattle.refusal.specs.Outcome.{refusal};
 ghost use Rattle.refusal.specs.Outcome.Outcome.{accepted};
 ghost use Rattle.filter.specs.Calls.{filterTold};
-ghost use Rattle.record.specs.Calls.{readTold};
 ghost use Rattle.circle_median.specs.Answers.{shapeOf, answerOf, valueOf, recordOf};
 
 // Number 0 means accepted; any other is a refusal's, with its place.
@@ -85,27 +83,30 @@ pub fn filter_answer(told: FilterAnswer) -> Answer
     }
 }
 
-pub fn record_answer(told: ReadAnswer) -> RecordAnswer
-    ensures { λ r. ⌜ r ≡ recordOf (readTold told) ⌝ }
+pub fn record_answer(shape: Shape) -> RecordAnswer
+    ensures { λ r. ⌜ r ≡ recordOf (accepted shape) ⌝ }
 {
-    match told {
-        ReadAnswer::Read(shape) => RecordAnswer {
-            number: 0,
-            place: 0,
-            cycle: shape.cycle,
-            rows: shape.rows,
-            columns: shape.columns,
-            mask_rows: shape.mask_rows,
-            mask_columns: shape.mask_columns,
-        },
-        ReadAnswer::Refused(f) => RecordAnswer {
-            number: refusal::number(f),
-            place: refusal::place(f) as u64,
-            cycle: 0,
-            rows: 0,
-            columns: 0,
-            mask_rows: 0,
-            mask_columns: 0,
-        },
+    RecordAnswer {
+        number: 0,
+        place: 0,
+        cycle: shape.cycle,
+        rows: shape.rows,
+        columns: shape.columns,
+        mask_rows: shape.mask_rows,
+        mask_columns: shape.mask_columns,
+    }
+}
+
+pub fn refused_record(f: Refusal) -> RecordAnswer
+    ensures { λ r. ⌜ r ≡ recordOf (refusal f) ⌝ }
+{
+    RecordAnswer {
+        number: refusal::number(f),
+        place: refusal::place(f) as u64,
+        cycle: 0,
+        rows: 0,
+        columns: 0,
+        mask_rows: 0,
+        mask_columns: 0,
     }
 }

@@ -7,6 +7,7 @@ use answers::RecordAnswer;
 use answers::ValueAnswer;
 use answers::filter_answer;
 use answers::record_answer;
+use answers::refused_record;
 use answers::refused_value;
 use answers::shape_of;
 use answers::value_answer;
@@ -14,6 +15,7 @@ use cycle::DistanceAnswer;
 use cycle::DriftAnswer;
 use cycle::SlotAnswer;
 use cycle::StepAnswer;
+use record::ReadAnswer;
 use record::WriteAnswer;
 ghost use mathlib.Core.Path.{_≡_};
 ghost use Rattle.cycle.specs.Calls.{distanceCall, stepCall, slotCall, driftCall};
@@ -131,5 +133,8 @@ pub extern "C" fn circle_median_write(
 pub extern "C" fn circle_median_read(bytes: &[u8], readings: &mut [u16]) -> RecordAnswer
     ensures { λ r. ⌜ ExportedRead (now (bytes .entry)) (now (readings .entry)) r (now (readings .exit)) ⌝ }
 {
-    record_answer(record::read(bytes, readings))
+    match record::read(bytes, readings) {
+        ReadAnswer::Refused(f) => refused_record(f),
+        ReadAnswer::Read(shape) => record_answer(shape),
+    }
 }

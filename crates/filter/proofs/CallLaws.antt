@@ -1,7 +1,7 @@
 -- Laws of a filter call: what acceptance says, and the work memory that it leaves. Assumes nothing.
 use Prim.Native.Nat.{ℕ, _+_, _*_, _^_, _≤_, _<_}
 use mathlib.Core.Path.{_≡_, ap, sym, _∙_}
-use mathlib.Core.List.{List, [], _∷_, _++_}
+use mathlib.Core.List.{List, _++_}
 use native.Mathlib.Omega.{arith}
 use native.Mathlib.Decide.{decLt}
 use native.Mathlib.Nat.{mul-le-mul, zero-add}
@@ -18,7 +18,7 @@ use Rattle.refusal.specs.Outcome.Outcome.{accepted}
 use Rattle.refusal.proofs.Outcome.{after-same, accepted-clear, clear-split, passed-on, refused-before}
 use Rattle.refusal.specs.Limits.{longestCycle}
 use Rattle.cycle.specs.Distance.{isReading}
-use Rattle.shape.specs.Rules.{shapeRules, area, bufferRule, workRule}
+use Rattle.shape.specs.Rules.{shapeRules, area}
 use Rattle.shape.specs.declared.Shape.{Shape}
 use Rattle.memory.specs.Memory.{Changed}
 use Rattle.memory.specs.Parts.{zeros}
@@ -26,7 +26,7 @@ use Rattle.window.specs.Ready.{Ready}
 use Rattle.refusal.specs.declared.Verdict.the-variants as verdicts
 use Rattle.filter.specs.declared.Engine.{Engine}
 use Rattle.filter.specs.declared.Engine.the-variants.{Level, Reading}
-use Rattle.filter.specs.Calls.{limit, need, imageRules, roomCall, filterCall}
+use Rattle.filter.specs.Calls.{limit, need, memoryRules, imageRules, roomCall, filterCall}
 
 -- a product of two numbers of 32 bits fits 64
 pub product-fits : (a b : ℕ) → a < 2 ^ 32 → b < 2 ^ 32 + 1 → a * b < 2 ^ 64
@@ -104,7 +104,7 @@ module _ (e : Engine) (s : Shape) (first end : ℕ) (image : List ℕ) (output w
       → filterCall e s first end image output work ≡ roomCall e s output work
   unfolding filterCall roomCall firstDue
   good-image order within size good =
-      after-same tt shape-tests image-tests (bufferRule (area s) output ∷ workRule (need e s) work ∷ [])
+      after-same tt shape-tests image-tests (memoryRules s (need e s) output work)
       (rw (le-ltb end first order, le-ltb (s .rows) end within, eq-eqb (length image) (area s) size, le-ltb (firstBad (isReading (s .cycle)) image) (length image) good))
 
 -- every engine's cycles are cycles

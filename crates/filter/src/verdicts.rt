@@ -9,9 +9,20 @@ use shape::Shape;
 use shape::shape_verdict;
 ghost use mathlib.Core.Path.{_≡_};
 ghost use Rattle.refusal.specs.Outcome.{firstDue, verdict};
-ghost use mathlib.Core.List.{[], _∷_};
-ghost use Rattle.shape.specs.Rules.{area, bufferRule, workRule};
-ghost use Rattle.filter.specs.Calls.{imageRules, roomCall, filterCall};
+ghost use Rattle.filter.specs.Calls.{memoryRules, imageRules, roomCall, filterCall};
+
+// 7 and 8, for an engine that needs so many numbers of work memory.
+fn memory_verdict(shape: Shape, need: usize, output: usize, work: usize) -> Verdict
+    ensures { λ r. ⌜ verdict r ≡ firstDue (memoryRules shape need output work) tt ⌝ }
+{
+    if output < (shape.rows as usize) * (shape.columns as usize) {
+        return Verdict::Refused(Refusal::Buffer);
+    }
+    if work < need {
+        return Verdict::Refused(Refusal::Work);
+    }
+    Verdict::Passed
+}
 
 // 5 to 9, for an engine that needs so many numbers of work memory.
 fn image_verdict(
@@ -31,30 +42,13 @@ fn image_verdict(
     if shape.rows < end {
         return Verdict::Refused(Refusal::Rows);
     }
-    let area = (shape.rows as usize) * (shape.columns as usize);
-    if input.len() != area {
+    if input.len() != (shape.rows as usize) * (shape.columns as usize) {
         return Verdict::Refused(Refusal::Input);
     }
-    if output < area {
-        return Verdict::Refused(Refusal::Buffer);
+    match memory_verdict(shape, need, output, work) {
+        Verdict::Refused(f) => Verdict::Refused(f),
+        Verdict::Passed => reading_verdict(shape.cycle, input),
     }
-    if work < need {
-        return Verdict::Refused(Refusal::Work);
-    }
-    reading_verdict(shape.cycle, input)
-}
-
-// 7 and 8, for an engine that needs so many numbers of work memory.
-fn memory_verdict(shape: Shape, need: usize, output: usize, work: usize) -> Verdict
-    ensures { λ r. ⌜ verdict r ≡ firstDue (bufferRule (area shape) output ∷ workRule need work ∷ []) tt ⌝ }
-{
-    if output < (shape.rows as usize) * (shape.columns as usize) {
-        return Verdict::Refused(Refusal::Buffer);
-    }
-    if work < need {
-        return Verdict::Refused(Refusal::Work);
-    }
-    Verdict::Passed
 }
 
 // Whether an engine filters a good image of that shape, with so much output and work memory: 1 to 4, 7, 8.

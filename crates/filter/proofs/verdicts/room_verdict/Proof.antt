@@ -1,12 +1,12 @@
 -- `filter::verdicts::room_verdict` meets its contract. Assumes nothing.
 use Prim.Native.Nat.{ℕ}
 use mathlib.Core.Path.{_≡_, ap, sym, _∙_}
-use mathlib.Core.List.{List, [], _∷_}
+use mathlib.Core.List.{List}
 use borrow.Author.Needs.{needs}
 use Rattle.refusal.specs.Outcome.{Rule, firstDue, verdict}
 use Rattle.refusal.proofs.Outcome.{passed-clear, passed-on, refused-before}
-use Rattle.shape.specs.Rules.{shapeRules, area, bufferRule, workRule}
-use Rattle.filter.specs.Calls.{limit, need, roomCall}
+use Rattle.shape.specs.Rules.{shapeRules}
+use Rattle.filter.specs.Calls.{limit, need, memoryRules, roomCall}
 use Rattle.filter.proofs.verdicts.room_verdict.Statement.{statement}
 use Rattle.filter.proofs.verdicts.room_verdict.Tie as tie
 
@@ -19,7 +19,7 @@ said c = c .shape-verdict .ensures ∙ ap (λ (l : ℕ). firstDue (shapeRules l 
 
 -- the tests after them
 abbrev rest : tie.After-shape-verdict → List Rule
-rest c = let a = start c .args in bufferRule (area (a .shape)) (a .output) ∷ workRule (need (a .engine) (a .shape)) (a .work) ∷ []
+rest c = let a = start c .args in memoryRules (a .shape) (need (a .engine) (a .shape)) (a .output) (a .work)
 
 limit-of-requires : tie.Need-limit-of-requires
 limit-of-requires c κs = search needs
@@ -56,7 +56,7 @@ returns-2 c =
     let k = t .before .before in
     let a = start k .args in
     c .memory-verdict .ensures
-    ∙ ap (λ (n : ℕ). firstDue (bufferRule (area (a .shape)) (a .output) ∷ workRule n (a .work) ∷ []) tt) (c .before .need-of .ensures)
+    ∙ ap (λ (n : ℕ). firstDue (memoryRules (a .shape) n (a .output) (a .work)) tt) (c .before .need-of .ensures)
     ∙ sym (passed-on (shapeRules (limit (a .engine)) (a .shape)) (said k) tt (rest k) (t .enum-told .given .1))
 
 pub room-verdict-spec : {M : Type 1} → statement M
