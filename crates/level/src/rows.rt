@@ -99,8 +99,36 @@ fn next_row(shape: Shape, image: &[u16], work: &mut [u32], table: &[u32], i: usi
     }
 }
 
-// The rows from first up to end of the output, each lent in its turn; the work memory past the need stays.
+// The rows from first up to end of the output, each lent in its turn, by a table of distances.
 fn each_row(
+    shape: Shape,
+    first: usize,
+    end: usize,
+    image: &[u16],
+    output: &mut [u16],
+    work: &mut [u32],
+    table: &[u32],
+)
+    requires { ⌜ Given shape (now image) (length (now work)) × Table (shape .cycle) (now table) ⌝ }
+    requires { ⌜ (first < end) × (end ≤ shape .rows) × (area shape ≤ length (now output)) ⌝ }
+    ensures { λ _. ⌜ now (output .exit) ≡ written (phaseAt shape (now (image .entry))) (first * shape .columns) (end * shape .columns) (now (output .entry)) ⌝ }
+    ensures { λ _. ⌜ Outside (now (work .entry)) (now (work .exit)) 0 (shape .columns * shape .cycle + shape .cycle) ⌝ }
+{
+    let columns = shape.columns as usize;
+    let start = first * columns;
+    let stop = start + columns;
+    first_row(shape, image, work, table, first, &mut output[start..stop]);
+    let mut i = first;
+    while i + 1 < end {
+        let a = (i + 1) * columns;
+        let b = a + columns;
+        next_row(shape, image, work, table, i, &mut output[a..b]);
+        i += 1;
+    }
+}
+
+// The rows from first up to end of the output; the work memory past the need stays.
+fn with_table(
     shape: Shape,
     first: usize,
     end: usize,
@@ -116,18 +144,9 @@ fn each_row(
     if first == end {
         return;
     }
-    let columns = shape.columns as usize;
-    let table = distances(shape.cycle as usize);
-    let start = first * columns;
-    let stop = start + columns;
-    first_row(shape, image, work, &table, first, &mut output[start..stop]);
-    let mut i = first;
-    while i + 1 < end {
-        let a = (i + 1) * columns;
-        let b = a + columns;
-        next_row(shape, image, work, &table, i, &mut output[a..b]);
-        i += 1;
-    }
+    let mut table = [0u32; 8192];
+    distances(shape.cycle as usize, &mut table);
+    each_row(shape, first, end, image, output, work, &table);
 }
 
 // The same. A function that calls itself is not inlined, so that the table stays out of its callers' frames,
@@ -145,7 +164,7 @@ pub fn fill(
     ensures { λ _. ⌜ now (output .exit) ≡ written (phaseAt shape (now (image .entry))) (first * shape .columns) (end * shape .columns) (now (output .entry)) ⌝ }
     ensures { λ _. ⌜ Outside (now (work .entry)) (now (work .exit)) 0 (shape .columns * shape .cycle + shape .cycle) ⌝ }
 {
-    each_row(shape, first, end, image, output, work);
+    with_table(shape, first, end, image, output, work);
     if end < first {
         fill(shape, first, end, image, output, work);
     }

@@ -2,7 +2,7 @@
 use cycle::apart;
 ghost use mathlib.Core.Path.{_≡_};
 ghost use Prim.Native.Nat.{_*_, _%_, _≤_, _<_};
-ghost use lib.ListN.{length, getD};
+ghost use lib.ListN.{replicate};
 ghost use Rattle.cycle.specs.Distance.{distance};
 ghost use Rattle.level_sums.specs.Table.{Table};
 
@@ -23,15 +23,14 @@ fn distance_at(cycle: usize, k: usize) -> u32
     apart(cycle as u16, tick as u16, 0) as u32
 }
 
-pub fn distances(cycle: usize) -> [u32; 8192]
-    requires { ⌜ cycle ≤ 4096 ⌝ }
-    ensures { λ r. ⌜ Table cycle r ⌝ }
+// Fills a table of zeros.
+pub fn distances(cycle: usize, table: &mut [u32])
+    requires { ⌜ (cycle ≤ 4096) × (now table ≡ replicate 8192 0) ⌝ }
+    ensures { λ _. ⌜ Table cycle (now (table .exit)) ⌝ }
 {
-    let mut table = [0u32; 8192];
     let mut k = 0;
     while k < 2 * cycle {
         table[k] = distance_at(cycle, k);
         k += 1;
     }
-    table
 }

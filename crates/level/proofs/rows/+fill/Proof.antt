@@ -7,7 +7,7 @@ use borrow.Fn.PlainCycle.{Measures, is, falls, and}
 use Rattle.level.proofs.rows.fill.Reads as fill
 use Rattle.level.proofs.rows.fill.Kinds as fill-kinds
 use Rattle.level.proofs.rows.+fill.Lts-fill as fill-lts
-use Rattle.level.proofs.rows.each_row.Reads as each-row-reads
+use Rattle.level.proofs.rows.with_table.Reads as with-table-reads
 use Rattle.level.proofs.rows.+fill.{statement}
 use Rattle.level.proofs.rows.+fill.Tie.{close}
 
@@ -21,73 +21,73 @@ abbrev fill-below : ℕ → In 3 fill-kinds.ps
 fill-below t = and 3 fill-kinds.ps (falls 3 fill-kinds.ps _<_ μ-fill t) fill.Pre
 
 -- the start of the function, from after its rows
-abbrev start : (t : ℕ) → fill-lts.After-each-row (each-row-reads.Asked, each-row-reads.Learnt, fill-below t, fill.Post) (fill-at t) fill.Post
-    → fill-lts.Start (each-row-reads.Asked, each-row-reads.Learnt, fill-below t, fill.Post) (fill-at t) fill.Post
+abbrev start : (t : ℕ) → fill-lts.After-with-table (with-table-reads.Asked, with-table-reads.Learnt, fill-below t, fill.Post) (fill-at t) fill.Post
+    → fill-lts.Start (with-table-reads.Asked, with-table-reads.Learnt, fill-below t, fill.Post) (fill-at t) fill.Post
 start t c = c .before .before .before .before .before .before
 
 -- the call of itself is never made
-never : (t : ℕ) {A : Type 0} → fill-lts.Then1 (each-row-reads.Asked, each-row-reads.Learnt, fill-below t, fill.Post) (fill-at t) fill.Post → A
+never : (t : ℕ) {A : Type 0} → fill-lts.Then1 (with-table-reads.Asked, with-table-reads.Learnt, fill-below t, fill.Post) (fill-at t) fill.Post → A
 never t c = absurd (omega (arith, c .if1 .taken, start t (c .before .before .before .before .before) .pre .1 .1 .0))
 
-fill-each-row-requires : (t : ℕ) → fill-lts.Need-each-row-requires (
-  each-row-reads.Asked,
-  each-row-reads.Learnt,
+fill-with-table-requires : (t : ℕ) → fill-lts.Need-with-table-requires (
+  with-table-reads.Asked,
+  with-table-reads.Learnt,
   fill-below t,
   fill.Post,
 ) (fill-at t) fill.Post
-fill-each-row-requires t c κs = search needs
+fill-with-table-requires t c κs = search needs
 
 fill-fill-requires : (t : ℕ) → fill-lts.Need-fill-requires (
-  each-row-reads.Asked,
-  each-row-reads.Learnt,
+  with-table-reads.Asked,
+  with-table-reads.Learnt,
   fill-below t,
   fill.Post,
 ) (fill-at t) fill.Post
 fill-fill-requires t c κs = never t (c .before .before)
 
 fill-same-length : (t : ℕ) → fill-lts.Need-same-length (
-  each-row-reads.Asked,
-  each-row-reads.Learnt,
+  with-table-reads.Asked,
+  with-table-reads.Learnt,
   fill-below t,
   fill.Post,
 ) (fill-at t) fill.Post
 fill-same-length t c = search needs
 
 fill-same-length-2 : (t : ℕ) → fill-lts.Need-same-length-2 (
-  each-row-reads.Asked,
-  each-row-reads.Learnt,
+  with-table-reads.Asked,
+  with-table-reads.Learnt,
   fill-below t,
   fill.Post,
 ) (fill-at t) fill.Post
 fill-same-length-2 t c = search needs
 
 fill-returns : (t : ℕ) → fill-lts.Need-returns (
-  each-row-reads.Asked,
-  each-row-reads.Learnt,
+  with-table-reads.Asked,
+  with-table-reads.Learnt,
   fill-below t,
   fill.Post,
 ) (fill-at t) fill.Post
 fill-returns t c = never t (c .before .before .before .before .before .before .before)
 
 fill-same-length-3 : (t : ℕ) → fill-lts.Need-same-length-3 (
-  each-row-reads.Asked,
-  each-row-reads.Learnt,
+  with-table-reads.Asked,
+  with-table-reads.Learnt,
   fill-below t,
   fill.Post,
 ) (fill-at t) fill.Post
 fill-same-length-3 t c = search needs
 
 fill-same-length-4 : (t : ℕ) → fill-lts.Need-same-length-4 (
-  each-row-reads.Asked,
-  each-row-reads.Learnt,
+  with-table-reads.Asked,
+  with-table-reads.Learnt,
   fill-below t,
   fill.Post,
 ) (fill-at t) fill.Post
 fill-same-length-4 t c = search needs
 
 fill-returns-2 : (t : ℕ) → fill-lts.Need-returns-2 (
-  each-row-reads.Asked,
-  each-row-reads.Learnt,
+  with-table-reads.Asked,
+  with-table-reads.Learnt,
   fill-below t,
   fill.Post,
 ) (fill-at t) fill.Post
@@ -95,14 +95,14 @@ fill-returns-2 t c = search needs
 
 pub +fill-spec : {M : Type 1} → statement M
 +fill-spec = close μ-fill λ t. fill-lts.spec (
-  each-row-reads.Asked,
-  each-row-reads.Learnt,
+  with-table-reads.Asked,
+  with-table-reads.Learnt,
   fill-below t,
   fill.Post,
 )
     (fill-at t)
     fill.Post
-    (fill-each-row-requires t)
+    (fill-with-table-requires t)
     (fill-fill-requires t)
     (fill-same-length t)
     (fill-same-length-2 t)
