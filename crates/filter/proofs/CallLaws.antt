@@ -104,7 +104,7 @@ module _ (e : Engine) (s : Shape) (first end : ℕ) (image : List ℕ) (output w
       → filterCall e s first end image output work ≡ roomCall e s output work
   unfolding filterCall roomCall firstDue
   good-image order within size good =
-      after-same tt shape-tests image-tests (memoryRules s (need e s) output work)
+      after-same tt shape-tests image-tests (memoryRules (area s) (need e s) output work)
       (rw (le-ltb end first order, le-ltb (s .rows) end within, eq-eqb (length image) (area s) size, le-ltb (firstBad (isReading (s .cycle)) image) (length image) good))
 
 -- every engine's cycles are cycles

@@ -27,14 +27,14 @@ abbrev pub need : Engine → Shape → ℕ
 need Level s = s .cycle * (s .columns + 1)
 need Reading s = s .«mask_rows» * s .«mask_columns» * (s .columns + 1)
 
--- 7 and 8, for an engine that needs so many numbers of work memory
-abbrev pub memoryRules : Shape → ℕ → ℕ → ℕ → List Rule
-memoryRules s room output work = bufferRule (area s) output ∷ workRule room work ∷ []
+-- 7 and 8, where so many numbers of output and of work memory are needed
+abbrev pub memoryRules : ℕ → ℕ → ℕ → ℕ → List Rule
+memoryRules phases room output work = bufferRule phases output ∷ workRule room work ∷ []
 
 -- 5 to 9
 abbrev pub imageRules : Shape → ℕ → ℕ → ℕ → List ℕ → ℕ → ℕ → List Rule
 imageRules s room first end image output work =
-    rowsRules (s .rows) first end ++ (inputRule (area s) (length image) ∷ (memoryRules s room output work ++ (readingRule (s .cycle) image ∷ [])))
+    rowsRules (s .rows) first end ++ (inputRule (area s) (length image) ∷ (memoryRules (area s) room output work ++ (readingRule (s .cycle) image ∷ [])))
 
 -- the tests of a filter, and its answer
 abbrev pub filterRules : Engine → Shape → ℕ → ℕ → List ℕ → ℕ → ℕ → List Rule
@@ -45,7 +45,7 @@ filterCall e s first end image output work = firstDue (filterRules e s first end
 
 -- those of them that do not look at the readings and at the range: whether a good image of that shape is filtered
 abbrev pub roomRules : Engine → Shape → ℕ → ℕ → List Rule
-roomRules e s output work = shapeRules (limit e) s ++ memoryRules s (need e s) output work
+roomRules e s output work = shapeRules (limit e) s ++ memoryRules (area s) (need e s) output work
 
 unfoldable pub roomCall : Engine → Shape → ℕ → ℕ → Outcome Unit
 roomCall e s output work = firstDue (roomRules e s output work) tt

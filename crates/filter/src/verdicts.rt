@@ -11,11 +11,11 @@ ghost use mathlib.Core.Path.{_≡_};
 ghost use Rattle.refusal.specs.Outcome.{firstDue, verdict};
 ghost use Rattle.filter.specs.Calls.{memoryRules, imageRules, roomCall, filterCall};
 
-// 7 and 8, for an engine that needs so many numbers of work memory.
-fn memory_verdict(shape: Shape, need: usize, output: usize, work: usize) -> Verdict
-    ensures { λ r. ⌜ verdict r ≡ firstDue (memoryRules shape need output work) tt ⌝ }
+// 7 and 8, where so many numbers of output and of work memory are needed.
+fn memory_verdict(phases: usize, need: usize, output: usize, work: usize) -> Verdict
+    ensures { λ r. ⌜ verdict r ≡ firstDue (memoryRules phases need output work) tt ⌝ }
 {
-    if output < (shape.rows as usize) * (shape.columns as usize) {
+    if output < phases {
         return Verdict::Refused(Refusal::Buffer);
     }
     if work < need {
@@ -42,10 +42,11 @@ fn image_verdict(
     if shape.rows < end {
         return Verdict::Refused(Refusal::Rows);
     }
-    if input.len() != (shape.rows as usize) * (shape.columns as usize) {
+    let area = (shape.rows as usize) * (shape.columns as usize);
+    if input.len() != area {
         return Verdict::Refused(Refusal::Input);
     }
-    match memory_verdict(shape, need, output, work) {
+    match memory_verdict(area, need, output, work) {
         Verdict::Refused(f) => Verdict::Refused(f),
         Verdict::Passed => reading_verdict(shape.cycle, input),
     }
@@ -57,7 +58,10 @@ pub fn room_verdict(engine: Engine, shape: Shape, output: usize, work: usize) ->
 {
     match shape_verdict(limit_of(engine), shape) {
         Verdict::Refused(f) => Verdict::Refused(f),
-        Verdict::Passed => memory_verdict(shape, need_of(engine, shape), output, work),
+        Verdict::Passed => {
+            let area = (shape.rows as usize) * (shape.columns as usize);
+            memory_verdict(area, need_of(engine, shape), output, work)
+        }
     }
 }
 

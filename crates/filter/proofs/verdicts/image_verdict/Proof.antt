@@ -39,7 +39,7 @@ clear c =
     (le-ltb (a .end) (a .first) (first two .if1 .left), (le-ltb (a .shape .rows) (a .end) (two .if2 .left), (rw (eq-eqb (length (a .input .now)) (area (a .shape)) (three .if3 .left)), tt)))
 
 abbrev memory : tie.After-memory-verdict → List Rule
-memory c = let a = start c .args in memoryRules (a .shape) (a .need) (a .output) (a .work)
+memory c = let a = start c .args in memoryRules (area (a .shape)) (a .need) (a .output) (a .work)
 
 abbrev last : tie.After-memory-verdict → List Rule
 last c = let a = start c .args in readingRule (a .shape .cycle) (a .input .now) ∷ []
@@ -52,14 +52,14 @@ returns-2 : tie.Need-returns-2
 unfolding firstDue
 returns-2 c = search tests
 
-cast-if3 : tie.Need-cast-if3
-cast-if3 c = search needs
+cast-area : tie.Need-cast-area
+cast-area c = search needs
 
-cast-if3-2 : tie.Need-cast-if3-2
-cast-if3-2 c = search needs
+cast-area-2 : tie.Need-cast-area-2
+cast-area-2 c = search needs
 
-mul-if3 : tie.Need-mul-if3
-mul-if3 c = let s = c .before .before .before .before .before .before .args .shape
+mul-area : tie.Need-mul-area
+mul-area c = let s = c .before .before .before .before .before .before .args .shape
     in record { fits = product-fits (s .rows) (s .columns) (omega arith) (omega arith) }
 
 returns-3 : tie.Need-returns-3
@@ -96,9 +96,9 @@ image-verdict-spec =
     (tie.spec
     returns
     returns-2
-    cast-if3
-    cast-if3-2
-    mul-if3
+    cast-area
+    cast-area-2
+    mul-area
     returns-3
     memory-verdict-requires
     enum-known-f
