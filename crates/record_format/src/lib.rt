@@ -1,4 +1,4 @@
-// Numbers and fields as bytes: each number two bytes, high byte first.
+// Numbers and fields as bytes: each number two bytes, high byte first. Internal: the tests are the caller's.
 ghost use mathlib.Core.Path.{_≡_};
 ghost use Prim.Native.Nat.{_+_, _*_, _≤_, _<_};
 ghost use lib.ListN.{length};

@@ -1,4 +1,4 @@
-// The writer's tests, and the bytes that it writes.
+// The writer's tests, and the bytes that it writes. Internal: each `requires` is met by the tests before.
 use cycle::reading_verdict;
 use record_format::CYCLE_TAG;
 use record_format::END_TAG;

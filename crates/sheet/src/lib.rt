@@ -31,16 +31,6 @@ pub enum SheetAnswer {
     Refused(Refusal, usize),
 }
 
-// The length of the whole text, whatever the answer is.
-pub fn text_length(answer: SheetAnswer) -> usize
-    ensures { λ r. ⌜ r ≡ textLength answer ⌝ }
-{
-    match answer {
-        SheetAnswer::Printed(n) => n,
-        SheetAnswer::Refused(_, n) => n,
-    }
-}
-
 // The engine for an image, with so many numbers of work memory.
 fn engine_for(shape: Shape, room: usize) -> Engine
     ensures { λ r. ⌜ r ≡ engineFor shape room ⌝ }

@@ -4,25 +4,39 @@
 use libc::STDIN_FILENO;
 use libc::STDOUT_FILENO;
 use sheet::MOST_TEXT;
+use sheet::SheetAnswer;
 use sheet::sheet;
-use sheet::text_length;
+ghost use mathlib.Core.Path.{_≡_};
 ghost use Prim.Native.Nat.{_≤_};
 ghost use lib.ListN.{length};
-ghost use Rattle.sheet.specs.Sheet.{mostText};
+ghost use Rattle.sheet.specs.Sheet.{mostText, textLength, Sheet};
 
-// Prints the sheet of a record, or the line of its refusal.
+// The length of the whole text.
+fn text_length(answer: SheetAnswer) -> usize
+    ensures { λ r. ⌜ r ≡ textLength answer ⌝ }
+{
+    match answer {
+        SheetAnswer::Printed(n) => n,
+        SheetAnswer::Refused(_, n) => n,
+    }
+}
+
+// Prints the sheet of a record, or the line of its refusal. Internal: there must be room for every text.
 pub fn print_sheet(
-    record: &[u8],
+    bytes: &[u8],
     readings: &mut [u16],
     output: &mut [u16],
     work: &mut [u32],
     text: &mut [u8],
-)
+) -> SheetAnswer
     requires { ⌜ mostText ≤ length (now text) ⌝ }
+    ensures { λ r. ⌜ Sheet (now (bytes .entry)) (now (readings .entry)) (now (output .entry)) (now (work .entry)) (now (text .entry)) r (now (readings .exit)) (now (output .exit)) (now (work .exit)) (now (text .exit)) ⌝ }
 {
     let start = 0;
-    let end = text_length(sheet(record, readings, output, work, text));
+    let answer = sheet(bytes, readings, output, work, text);
+    let end = text_length(answer);
     io::write_all(STDOUT_FILENO, &text[start..end]);
+    answer
 }
 
 // Prints the sheet of the record that standard input holds. A record has at most 16,384 bytes, so one byte
