@@ -40,11 +40,13 @@ pairRules c a b = cycleRules longestCycle c ++ (tickRule c a 0 ∷ tickRule c b 
 abbrev pub slotRules : ℕ → ℕ → ℕ → ℕ → List Rule
 slotRules c p s w = pairRules c p s ++ (tickRule c w 2 ∷ [])
 
+-- 2, of a row of n readings
+abbrev pub lengthRules : ℕ → List Rule
+lengthRules n = rule (eqb n 0) 2 0 ∷ rule (ltb mostColumns n) 2 0 ∷ []
+
 -- the tests of drift: 1, 2 on the length of the row, 9
 abbrev pub rowRules : ℕ → List ℕ → List Rule
-rowRules c row =
-    cycleRules longestCycle c
-    ++ (rule (eqb (length row) 0) 2 0 ∷ rule (ltb mostColumns (length row)) 2 0 ∷ readingRule c row ∷ [])
+rowRules c row = cycleRules longestCycle c ++ (lengthRules (length row) ++ (readingRule c row ∷ []))
 
 unfoldable pub distanceCall : ℕ → ℕ → ℕ → Outcome ℕ
 distanceCall c a b = firstDue (pairRules c a b) (distance c a b)

@@ -4,11 +4,12 @@ use refusal::Verdict;
 use refusal::limits::LONGEST_CYCLE;
 use refusal::limits::MOST_COLUMNS;
 ghost use mathlib.Core.Path.{_≡_};
-ghost use mathlib.Core.List.{[], _∷_};
+ghost use mathlib.Core.List.{[], _∷_, _++_};
+ghost use lib.Dec.{ltb};
 ghost use Rattle.lists.specs.First.{firstBad};
-ghost use Rattle.refusal.specs.Outcome.{firstDue, verdict};
+ghost use Rattle.refusal.specs.Outcome.{rule, firstDue, verdict};
 ghost use Rattle.cycle.specs.Distance.{isReading};
-ghost use Rattle.cycle.specs.Calls.{cycleRules, pairRules, readingRule, rowRules};
+ghost use Rattle.cycle.specs.Calls.{cycleRules, pairRules, readingRule, lengthRules, rowRules};
 
 // Test 1, for a call that takes cycles up to a limit.
 pub fn cycle_verdict(limit: u32, cycle: u32) -> Verdict
@@ -66,20 +67,29 @@ pub fn pair_verdict(cycle: u32, a: u16, b: u16) -> Verdict
     }
 }
 
+// Tests 2 and 9 of a row of n readings, of which the first k are good.
+fn readings_verdict(n: usize, k: usize) -> Verdict
+    ensures { λ r. ⌜ verdict r ≡ firstDue (lengthRules n ++ (rule (ltb k n) 9 k ∷ [])) tt ⌝ }
+{
+    let most = MOST_COLUMNS as usize;
+    if n == 0 {
+        return Verdict::Refused(Refusal::Size);
+    }
+    if most < n {
+        return Verdict::Refused(Refusal::Size);
+    }
+    if k < n {
+        return Verdict::Refused(Refusal::Reading(k));
+    }
+    Verdict::Passed
+}
+
 // The tests of drift.
 pub fn row_verdict(cycle: u32, row: &[u16]) -> Verdict
     ensures { λ r. ⌜ verdict r ≡ firstDue (rowRules cycle (now (row .entry))) tt ⌝ }
 {
     match cycle_verdict(LONGEST_CYCLE, cycle) {
         Verdict::Refused(f) => Verdict::Refused(f),
-        Verdict::Passed => {
-            if row.len() == 0 {
-                return Verdict::Refused(Refusal::Size);
-            }
-            if (MOST_COLUMNS as usize) < row.len() {
-                return Verdict::Refused(Refusal::Size);
-            }
-            reading_verdict(cycle, row)
-        }
+        Verdict::Passed => readings_verdict(row.len(), first_bad(cycle, row)),
     }
 }

@@ -1,17 +1,23 @@
 -- `cycle::verdicts::row_verdict` meets its contract. Assumes nothing.
-use mathlib.Core.Path.{sym, _∙_}
+use Prim.Native.Nat.{ℕ}
+use mathlib.Core.Path.{ap, sym, _∙_}
+use mathlib.Core.List.{List, [], _∷_, _++_}
 use borrow.Author.Needs.{needs}
-use Rattle.cycle.specs.Calls.{cycleRules}
-use Rattle.refusal.proofs.Outcome.{tests, passed-clear, refused-before}
-use Rattle.refusal.specs.Outcome.{Clear, firstDue}
+use lib.Dec.{ltb}
+use lib.ListN.{length}
 use Rattle.refusal.specs.Limits.{longestCycle}
+use Rattle.refusal.specs.Outcome.{Rule, rule, firstDue}
+use Rattle.refusal.proofs.Outcome.{passed-on, refused-before}
+use Rattle.cycle.specs.Calls.{cycleRules, readingRule, lengthRules}
 use Rattle.cycle.proofs.verdicts.row_verdict.Statement.{statement}
 use Rattle.cycle.proofs.verdicts.row_verdict.Tie as tie
 
--- the tests that passed
-clear : (c : tie.After-enum-told) → Clear (cycleRules longestCycle (c .before .before .before .before .args .cycle))
-clear c = passed-clear (cycleRules longestCycle (c .before .before .before .before .args .cycle)) (c .before .before .cycle-verdict .ensures)
-    (c .enum-told .given .1)
+abbrev start : tie.After-cycle-verdict → tie.Start
+start c = c .before .before
+
+-- the tests after the cycle's
+abbrev rest : tie.After-cycle-verdict → List Rule
+rest c = let a = start c .args in lengthRules (length (a .row .now)) ++ (readingRule (a .cycle) (a .row .now) ∷ [])
 
 cycle-verdict-requires : tie.Need-cycle-verdict-requires
 cycle-verdict-requires c κs = search needs
@@ -22,33 +28,25 @@ enum-known-f c = search needs
 enum-told : tie.Need-enum-told
 enum-told c = search needs
 
-returns : tie.Need-returns
-unfolding firstDue
-returns c =
-    let k = clear (c .before) in
-    search (tests, k .0, k .1 .0)
+first-bad-requires : tie.Need-first-bad-requires
+first-bad-requires c κs = search needs
 
-cast-if2 : tie.Need-cast-if2
-cast-if2 c = search needs
+readings-verdict-requires : tie.Need-readings-verdict-requires
+readings-verdict-requires c κs = search needs
+
+returns : tie.Need-returns
+returns c =
+    let k = c .before .before .before in
+    sym (refused-before (cycleRules longestCycle (start k .args .cycle)) (k .cycle-verdict .ensures) tt (rest k) (c .before .f .given .1))
 
 returns-2 : tie.Need-returns-2
-unfolding firstDue
 returns-2 c =
-    let k = clear (c .before .before) in
-    search (tests, k .0, k .1 .0)
-
-reading-verdict-requires : tie.Need-reading-verdict-requires
-reading-verdict-requires c κs = search needs
-
-returns-3 : tie.Need-returns-3
-returns-3 c = sym (refused-before (cycleRules longestCycle (c .before .before .before .before .before .args .cycle))
-    (c .before .before .before .cycle-verdict .ensures) tt _ (c .before .f .given .1))
-
-returns-4 : tie.Need-returns-4
-unfolding firstDue
-returns-4 c =
-    let k = clear (c .before .before .before) in
-    c .reading-verdict .ensures ∙ search (tests, k .0, k .1 .0)
+    let t = c .before .before in
+    let k = t .before .before in
+    let a = start k .args in
+    c .readings-verdict .ensures
+    ∙ ap (λ (m : ℕ). firstDue (lengthRules (length (a .row .now)) ++ (rule (ltb m (length (a .row .now))) 9 m ∷ [])) tt) (c .before .first-bad .ensures)
+    ∙ sym (passed-on (cycleRules longestCycle (a .cycle)) (k .cycle-verdict .ensures) tt (rest k) (t .enum-told .given .1))
 
 pub row-verdict-spec : {M : Type 1} → statement M
 row-verdict-spec =
@@ -57,9 +55,7 @@ row-verdict-spec =
     cycle-verdict-requires
     enum-known-f
     enum-told
+    first-bad-requires
+    readings-verdict-requires
     returns
-    cast-if2
-    returns-2
-    reading-verdict-requires
-    returns-3
-    returns-4)
+    returns-2)
