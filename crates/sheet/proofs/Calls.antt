@@ -74,32 +74,32 @@ module _ (bytes : List ℕ) (readings output work : ℕ) where
       ∙ rw (said, good-image (engineFor s work) s 0 (s .rows) (imageIn bytes) output work (omega arith) (omega arith) (g .size) (g .good))
 
   -- What it says that a sheet is accepted.
-  pub record Accepted (s : Shape) : Type 0 where
+  pub record SheetAccepted (s : Shape) : Type 0 where
     pub short : length bytes ≤ mostBytes
     pub read : readCall bytes readings ≡ accepted s
     pub filtered : filteredCall s (imageIn bytes) output work ≡ accepted tt
 
-  pub sheet-accepted : (s : Shape) → sheetCall bytes readings output work ≡ accepted s → Accepted s
+  pub sheet-accepted : (s : Shape) → sheetCall bytes readings output work ≡ accepted s → SheetAccepted s
   sheet-accepted s said = go (decLt mostBytes (length bytes))
     where
       filtered : (t : Shape) (o : Outcome Unit) → length bytes ≤ mostBytes → readCall bytes readings ≡ accepted t
-          → filteredCall t (imageIn bytes) output work ≡ o → andThen o (λ u. accepted t) ≡ accepted s → Accepted s
+          → filteredCall t (imageIn bytes) output work ≡ o → andThen o (λ u. accepted t) ≡ accepted s → SheetAccepted s
       filtered t (accepted u) h r f e =
           let t-is : t ≡ s = cc in
           record { short = h; read = rw t-is at r; filtered = rw t-is at f }
       filtered t (refused n k) h r f e = let z : _≡_ {A = ℕ} 0 1 = cc in absurd (omega arith)
 
       read : (o : Outcome Shape) → length bytes ≤ mostBytes → readCall bytes readings ≡ o
-          → andThen o (λ s. andThen (filteredCall s (imageIn bytes) output work) (λ u. accepted s)) ≡ accepted s → Accepted s
+          → andThen o (λ s. andThen (filteredCall s (imageIn bytes) output work) (λ u. accepted s)) ≡ accepted s → SheetAccepted s
       read (accepted t) h r e = filtered t (filteredCall t (imageIn bytes) output work) h r refl e
       read (refused n k) h r e = let z : _≡_ {A = ℕ} 0 1 = cc in absurd (omega arith)
 
-      go : Dec (mostBytes < length bytes) → Accepted s
+      go : Dec (mostBytes < length bytes) → SheetAccepted s
       go (yes h) = let e = sym (long-call h) ∙ said in let z : _≡_ {A = ℕ} 0 1 = cc in absurd (omega arith)
       go (no h) = let g : length bytes ≤ mostBytes = omega arith in read (readCall bytes readings) g refl (sym (short-call g) ∙ said)
 
 -- What reading and filtering such a record leaves.
-module _ (bytes readings output work : List ℕ) {s : Shape} (a : Accepted bytes (length readings) (length output) (length work) s) where
+module _ (bytes readings output work : List ℕ) {s : Shape} (a : SheetAccepted bytes (length readings) (length output) (length work) s) where
   module _ {r : ReadAnswer} {readings₁ : List ℕ} (reads : Reads bytes readings r readings₁) where
     pub stored : readings₁ ≡ imageIn bytes ++ drop (area s) readings
     stored = reads .memory ∙ left-accepted (imageIn bytes) readings (a .read) ∙ rw (read-good bytes (length readings) s (a .read) .size)

@@ -79,7 +79,7 @@ abbrev pub Sheet : List ℕ → List ℕ → List ℕ → List ℕ → List ℕ 
 Sheet bytes readings₀ output₀ work₀ text₀ r readings₁ output₁ work₁ text₁ =
     SheetWith (sheetCall bytes (length readings₀) (length output₀) (length work₀)) bytes readings₀ output₀ work₀ text₀ r readings₁ output₁ work₁ text₁
 
--- what reading and filtering a record leaves, of the shape s
+-- what reading and filtering a record of the shape s leaves; internal to the sheet
 pub record RecordFiltered (s : Shape) (bytes readings₀ output₀ work₀ readings₁ output₁ work₁ : List ℕ) : Type 0 where
   pub readings : readings₁ ≡ imageIn bytes ++ drop (area s) readings₀
   pub output : output₁ ≡ filteredRows s 0 (s .rows) (imageIn bytes) output₀

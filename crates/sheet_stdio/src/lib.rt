@@ -1,6 +1,7 @@
 // The bench sheet from standard input to standard output: here the bytes are read, the memory is lent, and
 // the text is written. All that is printed is laid out by `sheet`, which is proved. A program over this
-// calls one function.
+// calls `print_input`, of which no contract can speak: it takes and returns nothing. `print_sheet` is
+// internal: its `requires` is met by the text memory of the programs.
 use libc::STDIN_FILENO;
 use libc::STDOUT_FILENO;
 use sheet::MOST_TEXT;
@@ -21,7 +22,7 @@ fn text_length(answer: SheetAnswer) -> usize
     }
 }
 
-// Prints the sheet of a record, or the line of its refusal. Internal: there must be room for every text.
+// Prints the sheet of a record, or the line of its refusal.
 pub fn print_sheet(
     bytes: &[u8],
     readings: &mut [u16],

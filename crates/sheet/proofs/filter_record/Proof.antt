@@ -9,7 +9,7 @@ use Rattle.filter.specs.Calls.{Call}
 use Rattle.filter.proofs.CallLaws.{product-fits}
 use Rattle.record_format.specs.Reading.{imageIn}
 use Rattle.sheet.specs.Sheet.{engineFor}
-use Rattle.sheet.proofs.Calls.{Accepted, sheet-accepted, stored, image-stored, filtered-rows}
+use Rattle.sheet.proofs.Calls.{SheetAccepted, sheet-accepted, stored, image-stored, filtered-rows}
 use Rattle.sheet.proofs.filter_record.Statement.{statement}
 use Rattle.sheet.proofs.filter_record.Tie as tie
 
@@ -22,7 +22,7 @@ start c = c .before .before .before .before .before .before .before .before .bef
 
 -- the tests have passed
 passed : (s : tie.Start) → let a = s .args in
-    Accepted (a .bytes .now) (length (a .readings .now)) (length (a .output .now)) (length (a .work .now)) (a .shape)
+    SheetAccepted (a .bytes .now) (length (a .readings .now)) (length (a .output .now)) (length (a .work .now)) (a .shape)
 passed s =
     let a = s .args in
     sheet-accepted (a .bytes .now) (length (a .readings .now)) (length (a .output .now)) (length (a .work .now)) (a .shape) (s .pre)

@@ -5,7 +5,7 @@ use lib.ListN.{length}
 use Rattle.refusal.specs.Outcome.Outcome.{accepted}
 use Rattle.record.specs.Calls.{readTold}
 use Rattle.sheet.specs.Sheet.{sheetCall, RecordFiltered}
-use Rattle.sheet.proofs.Calls.{Accepted, sheet-accepted, output-sizes, output-clear, output-text, refused-sheet, printed-sheet}
+use Rattle.sheet.proofs.Calls.{SheetAccepted, sheet-accepted, output-sizes, output-clear, output-text, refused-sheet, printed-sheet}
 use Rattle.sheet.proofs.Fits.{told-fits}
 use Rattle.sheet.proofs.sheet.Statement.{statement}
 use Rattle.sheet.proofs.sheet.Tie as tie
@@ -34,7 +34,7 @@ passed : (c : tie.After-shape) → let a = start (tests c) .args in
 passed c = sym (said (tests c)) ∙ ap readTold (c .shape .given .1)
 
 clear : (c : tie.After-shape) → let a = start (tests c) .args in
-    Accepted (a .bytes .now) (length (a .readings .now)) (length (a .output .now)) (length (a .work .now)) (c .shape .given .0 .0)
+    SheetAccepted (a .bytes .now) (length (a .readings .now)) (length (a .output .now)) (length (a .work .now)) (c .shape .given .0 .0)
 clear c =
     let a = start (tests c) .args in
     sheet-accepted (a .bytes .now) (length (a .readings .now)) (length (a .output .now)) (length (a .work .now)) (c .shape .given .0 .0) (passed c)
