@@ -8,6 +8,8 @@ use refusal::Verdict;
 use ticks::ahead_of;
 pub use ticks::apart;
 use ticks::drift_of;
+pub use ticks::least;
+pub use ticks::less;
 use ticks::signed_step;
 pub use ticks::size;
 pub use verdicts::cycle_verdict;

@@ -5,6 +5,7 @@ ghost use Prim.Native.Nat.{_-_, _^_, _≤_, _<_, min};
 ghost use lib.IntN.{pos, natAbs, _-ℤ_};
 ghost use lib.ListN.{length};
 ghost use Rattle.lists.specs.First.{firstBad};
+ghost use Rattle.refusal.specs.Limits.{mostColumns};
 ghost use Rattle.cycle.specs.Distance.{distance, isReading};
 ghost use Rattle.cycle.specs.Step.{ahead, isForward, step, drift};
 
@@ -17,13 +18,14 @@ pub fn apart(cycle: u16, a: u16, b: u16) -> u16
 }
 
 // a - b, or 0 where b is larger.
-fn less(a: u16, b: u16) -> u16
+pub fn less(a: u16, b: u16) -> u16
     ensures { λ r. ⌜ r ≡ a - b ⌝ }
 {
     if b <= a { a - b } else { 0 }
 }
 
-fn least(a: u16, b: u16) -> u16
+// The lesser of two numbers.
+pub fn least(a: u16, b: u16) -> u16
     ensures { λ r. ⌜ r ≡ min a b ⌝ }
 {
     if a <= b { a } else { b }
@@ -75,7 +77,7 @@ pub fn signed_step(cycle: u32, a: u32, b: u32) -> i32
 // The sum of the steps between neighbours: the ways ahead and the cycles to take off are summed
 // each by itself, and subtracted once.
 pub fn drift_of(cycle: u32, row: &[u16]) -> i32
-    requires { ⌜ (0 < cycle) × (cycle < 2 ^ 16) × (length (now row) ≤ 8192) × (length (now row) ≤ firstBad (isReading cycle) (now row)) ⌝ }
+    requires { ⌜ (0 < cycle) × (cycle < 2 ^ 16) × (length (now row) ≤ mostColumns) × (length (now row) ≤ firstBad (isReading cycle) (now row)) ⌝ }
     ensures { λ r. ⌜ r ≡ drift cycle (now (row .entry)) ⌝ }
 {
     let mut up: u32 = 0;

@@ -4,14 +4,10 @@ use refusal::limits::LEVEL_CYCLE;
 use refusal::limits::LONGEST_CYCLE;
 use shape::Shape;
 ghost use mathlib.Core.Path.{_≡_};
-ghost use Prim.Native.Nat.{_*_, _≤_};
 ghost use lib.ListN.{length};
-ghost use Rattle.lists.specs.Tabulate.{written};
 ghost use Rattle.refusal.specs.Outcome.{Clear};
-ghost use Rattle.shape.specs.Rules.{shapeRules, area};
-ghost use Rattle.memory.specs.Memory.{Outside};
-ghost use Rattle.window.specs.Phase.{phaseAt};
-ghost use Rattle.window.specs.Ready.{Ready};
+ghost use Rattle.shape.specs.Rules.{shapeRules};
+ghost use Rattle.lines.specs.Rows.{Fillable, Filled};
 ghost use Rattle.filter.specs.Calls.{limit, need};
 
 pub fn limit_of(engine: Engine) -> u32
@@ -37,6 +33,7 @@ pub fn need_of(engine: Engine, shape: Shape) -> usize
     }
 }
 
+// The rows from first up to end of the output, by one of the engines.
 pub fn fill(
     engine: Engine,
     shape: Shape,
@@ -46,10 +43,8 @@ pub fn fill(
     output: &mut [u16],
     work: &mut [u32],
 )
-    requires { ⌜ Ready (limit engine) shape (now image) × (need engine shape ≤ length (now work)) ⌝ }
-    requires { ⌜ (first ≤ end) × (end ≤ shape .rows) × (area shape ≤ length (now output)) ⌝ }
-    ensures { λ _. ⌜ now (output .exit) ≡ written (phaseAt shape (now (image .entry))) (first * shape .columns) (end * shape .columns) (now (output .entry)) ⌝ }
-    ensures { λ _. ⌜ Outside (now (work .entry)) (now (work .exit)) 0 (need engine shape) ⌝ }
+    requires { ⌜ Fillable (limit engine) (need engine) shape (now image) first end (length (now output)) (length (now work)) ⌝ }
+    ensures { λ _. ⌜ Filled (need engine) shape (now (image .entry)) first end (now (output .entry)) (now (output .exit)) (now (work .entry)) (now (work .exit)) ⌝ }
 {
     match engine {
         Engine::Level => level::rows::fill(shape, first, end, image, output, work),

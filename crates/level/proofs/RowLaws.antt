@@ -1,19 +1,67 @@
--- Rows of sums in the work memory, column by column, and the row of phases that is written. Assumes nothing.
+-- Rows of sums in the work memory, column by column, the phases that are chosen by them, and the row of phases that is written.
+-- Assumes nothing.
 use Prim.Native.Nat.{ℕ, _+_, _*_, _≤_, _<_}
 use mathlib.Core.Path.{_≡_, ap, sym, _∙_}
 use mathlib.Core.List.{List}
 use native.Mathlib.Omega.{arith}
 use native.Mathlib.Decide.{ℕ-discrete}
+use borrow.Author.Tests.{ltb-false, le-ltb}
 use lib.ListN.{length, getD, set, length-set}
 use lib.Seq.{getD-set-same, getD-set-other, ext-getD}
 use Rattle.lists.specs.Tabulate.{tabulate}
 use Rattle.lists.proofs.Parts.{part-end}
 use Rattle.lists.proofs.Tabulate.{length-tabulate, getD-tabulate}
+use Rattle.refusal.specs.Limits.{levelCycle, longestCycle}
 use Rattle.shape.specs.declared.Shape.{Shape}
-use Rattle.memory.specs.Memory.{Holds, Changed, Outside, ChangedBoth}
+use Rattle.median.proofs.Sum.{shares-sum}
+use Rattle.median.proofs.Choice.{chosen-by-sums}
+use Rattle.memory.specs.Memory.{Holds, Changed, Outside, ChangedBoth, lowest}
+use Rattle.memory.specs.Parts.{copied}
+use Rattle.memory.proofs.Lowest.{lowest-cong}
 use Rattle.window.specs.Phase.{phase, phaseAt}
 use Rattle.window.proofs.Phase.{phase-at}
-use Rattle.level_sums.specs.Sums.{Given, windowSum, RowSums}
+use Rattle.window.specs.Ready.{Ready}
+use Rattle.window.specs.Window.{window, centre}
+use Rattle.window.proofs.Window.{centre-below}
+use Rattle.lines.specs.Lines.{Centres}
+use Rattle.level_sums.specs.Sums.{Given, windowSum, RowSums, need}
+use Rattle.level_sums.proofs.Spots.{accepted, column-room}
+use Rattle.level_sums.proofs.ColumnLaws.{window-signed}
+use Rattle.level.specs.Rows.{Choosable, ChosenBy}
+
+-- what the level engine takes, any engine takes
+pub ready-longest : {s : Shape} {image : List ℕ} → Ready levelCycle s image → Ready longestCycle s image
+ready-longest {s} r =
+    let k = r .shape in
+    let fits = ltb-false levelCycle (s .cycle) (k .1 .0) in
+    record { shape = (k .0, (le-ltb longestCycle (s .cycle) (omega arith), k .1 .1)); size = r .size; good = r .good }
+
+-- the tick of column j may be chosen by its centre in the line of centres and its sums in the work memory, and is the phase of row i then
+pub record Ripe (s : Shape) (image : List ℕ) (i : ℕ) (centres w : List ℕ) (j base : ℕ) : Type 0 where
+  pub choosable : Choosable (s .cycle) centres w j base
+  pub chosen : (r : ℕ) → ChosenBy (s .cycle) centres w j base r → r ≡ phase s image i j
+
+pub ripe : {s : Shape} {image centres : List ℕ} {i j base : ℕ} (w : List ℕ) → Given s image (length w) → i < s .rows → j < s .columns
+    → Centres s image i centres → base ≡ j * s .cycle → Holds w base (s .cycle) (windowSum s image i j) → Ripe s image i centres w j base
+unfolding phase
+ripe {s} {image} {centres} {i} {j} {base} w given hi hj mid at holds = record {
+  choosable = record {
+    fits = omega (arith, accepted given);
+    inside = omega (arith, mid .len, accepted given);
+    tick = rw (mid .holds j hj) tick;
+    room = omega (arith, column-room given j hj, given .room);
+    signed = λ q h. rw (holds q h) (window-signed s image given i j hi hj q h);
+  };
+  chosen = λ r x. chosen-by-sums (s .cycle) (centre 0 s image i j) (window 0 s image i j) tick (copied w base) r (rw (mid .holds j hj) at x)
+      (λ q h. holds q h ∙ shares-sum (s .cycle) q (window 0 s image i j));
+}
+  where
+    tick : centre 0 s image i j < s .cycle
+    tick = centre-below (given .ready) (omega arith) i j hi hj
+
+-- the lowest of the numbers that a part holds
+pub lowest-held : (w : List ℕ) (base n : ℕ) (f : ℕ → ℕ) {least : ℕ} → Holds w base n f → least ≡ lowest f n → least ≡ lowest (copied w base) n
+lowest-held w base n f holds e = e ∙ lowest-cong f (copied w base) n (λ q h. sym (holds q h))
 
 -- the first j phases of row i are written
 pub record Row (s : Shape) (image : List ℕ) (i : ℕ) (out : List ℕ) (j : ℕ) : Type 0 where
@@ -65,16 +113,12 @@ module _ (s : Shape) (image : List ℕ) where
 
   -- a column or the differences changed: nothing past the need did
   pub changed-outside : {w w′ : List ℕ} {place : ℕ} {f : ℕ → ℕ} → Changed w w′ place (s .cycle) f → place ≤ s .columns * s .cycle
-      → Outside w w′ 0 (s .columns * s .cycle + s .cycle)
+      → Outside w w′ 0 (need s)
   changed-outside x h = record { len = x .len; before = λ k g. absurd (omega arith); after = λ k g. x .after k (omega arith) }
 
   pub turned-outside : {w w′ : List ℕ} {place change : ℕ} {f z : ℕ → ℕ} → ChangedBoth w w′ place change (s .cycle) f z → change ≡ s .columns * s .cycle
-      → Outside w w′ 0 (s .columns * s .cycle + s .cycle)
+      → Outside w w′ 0 (need s)
   turned-outside x d = record { len = x .len; before = λ k g. absurd (omega arith); after = λ k g. x .after k (omega arith) }
-
--- memory of the same length serves as well
-pub given-kept : {s : Shape} {image : List ℕ} {n m : ℕ} → Given s image n → m ≡ n → Given s image m
-given-kept g e = record { ready = g .ready; room = omega (arith, g .room) }
 
 -- a part at another name of its place
 pub holds-at : (w : List ℕ) (n : ℕ) (f : ℕ → ℕ) {a b : ℕ} → a ≡ b → Holds w b n f → Holds w a n f

@@ -1,5 +1,5 @@
 -- Going outward from the centre, ahead before behind, the first tick with the least sum is the chosen one, and so is the only one. Assumes nothing.
-use Prim.Native.Nat.{ℕ, _+_, _-_, _%_, _^_, _≤_, _<_}
+use Prim.Native.Nat.{ℕ, _+_, _-_, _%_, _≤_, _<_}
 use mathlib.Core.Path.{_≡_, refl, ap, sym, _∙_}
 use mathlib.Core.Logic.{_⊎_, inl, inr, ⊎-elim}
 use native.Mathlib.Omega.{arith}
@@ -12,7 +12,7 @@ use Rattle.cycle.proofs.Ways.{Way, way-mod, mod-way, way-back, distance-way}
 use Rattle.median.specs.Choice.{candidates, Chosen}
 use Rattle.median.proofs.Rank.{reached}
 use Rattle.median.proofs.Choice.{candidate, candidate-below}
-use Rattle.memory.specs.Memory.{lowest}
+use Rattle.memory.specs.Memory.{Signed, lowest}
 use Rattle.memory.proofs.Lowest.{lowest-least, lowest-found}
 use Rattle.level_choice.specs.Walk.{Passed, Walked}
 
@@ -101,10 +101,10 @@ module _ (c a : ℕ) (ha : a < c) where
             (λ (x : q ≡ rear c a (distance c a q)). r (ap sum (sym (x ∙ ap (rear c a) d)) ∙ s))
             (two q h)
 
-    module _ (small : (q : ℕ) → q < c → sum q < 2 ^ 32) where
+    module _ (signed : Signed sum c) where
       -- some tick has the least sum
       some : (q : ℕ) × (q < c) × (sum q ≡ least)
-      some = let x = lowest-found sum c (omega arith) small in (x .0, x .1, x .2 ∙ sym is-lowest)
+      some = let x = lowest-found sum c (omega arith) signed in (x .0, x .1, x .2 ∙ sym is-lowest)
 
       -- so a walk over all steps meets one
       pub walked-all : (r : ℕ) → Walked c a sum least c r → Chosen c a sum (candidates c) r

@@ -4,10 +4,11 @@
 // that sum is its place. If there are several, the walk goes on. Internal: the engine meets each
 // `requires`.
 ghost use mathlib.Core.Path.{_≡_};
-ghost use Prim.Native.Nat.{ℕ, _+_, _%_, _^_, _≤_, _<_};
-ghost use lib.ListN.{length, getD};
+ghost use Prim.Native.Nat.{_+_, _%_, _≤_, _<_};
+ghost use lib.ListN.{length};
+ghost use Rattle.refusal.specs.Limits.{longestCycle};
 ghost use Rattle.median.specs.Choice.{candidates, Chosen};
-ghost use Rattle.memory.specs.Memory.{lowest};
+ghost use Rattle.memory.specs.Memory.{Signed, lowest};
 ghost use Rattle.memory.specs.Parts.{copied};
 ghost use Rattle.level_choice.specs.Walk.{Passed, Walked};
 ghost use Rattle.level_choice.specs.Count.{ifEqual, countOf, placesOf};
@@ -20,7 +21,7 @@ struct Tally {
 
 // The tick that lies e ahead of a.
 fn ahead_by(cycle: usize, a: usize, e: usize) -> usize
-    requires { ⌜ (a < cycle) × (e ≤ cycle) × (cycle ≤ 65535) ⌝ }
+    requires { ⌜ (a < cycle) × (e ≤ cycle) × (cycle ≤ longestCycle) ⌝ }
     ensures { λ r. ⌜ r ≡ (a + e) % cycle ⌝ }
 {
     if a + e < cycle { a + e } else { a + e - cycle }
@@ -37,7 +38,7 @@ fn walk(
     start: usize,
     end: usize,
 ) -> usize
-    requires { ⌜ (base + cycle ≤ length (now work)) × (centre < cycle) × (cycle ≤ 65535) × (least ≡ lowest (copied (now work) base) cycle) ⌝ }
+    requires { ⌜ (base + cycle ≤ length (now work)) × (centre < cycle) × (cycle ≤ longestCycle) × (least ≡ lowest (copied (now work) base) cycle) ⌝ }
     requires { ⌜ (start ≤ end) × (end ≤ cycle) × Passed cycle centre (copied (now work) base) least start ⌝ }
     ensures { λ r. ⌜ Walked cycle centre (copied (now (work .entry)) base) least end r ⌝ }
 {
@@ -65,7 +66,7 @@ fn if_equal(sum: u32, least: u32, x: u32) -> u32
 
 // Tallies the ticks with the least sum: one loop without a branch, for packed instructions.
 fn tally_of(work: &[u32], base: usize, cycle: usize, least: u32) -> Tally
-    requires { ⌜ (base + cycle ≤ length (now work)) × (cycle ≤ 65535) ⌝ }
+    requires { ⌜ (base + cycle ≤ length (now work)) × (cycle ≤ longestCycle) ⌝ }
     ensures { λ r. ⌜ (r .count ≡ countOf (copied (now (work .entry)) base) least cycle) × (r .places ≡ placesOf (copied (now (work .entry)) base) least cycle) ⌝ }
 {
     let mut count: u32 = 0;
@@ -86,8 +87,8 @@ fn tally_of(work: &[u32], base: usize, cycle: usize, least: u32) -> Tally
 // The tick that the paper chooses by the sums at base, of which least is the lowest. A tally costs as
 // much as many steps, so a few come first, one for each 64 ticks.
 pub fn choose(work: &[u32], base: usize, cycle: usize, centre: usize, least: u32) -> usize
-    requires { ⌜ (base + cycle ≤ length (now work)) × (centre < cycle) × (cycle ≤ 65535) × (least ≡ lowest (copied (now work) base) cycle) ⌝ }
-    requires { ⌜ ((q : ℕ) → q < cycle → getD (now work) (base + q) 0 < 2 ^ 32) ⌝ }
+    requires { ⌜ (base + cycle ≤ length (now work)) × (centre < cycle) × (cycle ≤ longestCycle) × (least ≡ lowest (copied (now work) base) cycle) ⌝ }
+    requires { ⌜ Signed (copied (now work) base) cycle ⌝ }
     ensures { λ r. ⌜ Chosen cycle centre (copied (now (work .entry)) base) (candidates cycle) r ⌝ }
 {
     let near = cycle / 64 + 1;

@@ -7,10 +7,10 @@ use native.Mathlib.Nat.{mul-le-mul}
 use lib.ListN.{length, getD}
 use Rattle.lists.proofs.Parts.{part-end}
 use Rattle.refusal.specs.Limits.{levelCycle, mostColumns}
-use Rattle.cycle.specs.Distance.{distance}
 use Rattle.shape.specs.Rules.{reach}
 use Rattle.shape.specs.declared.Shape.{Shape}
 use Rattle.shape.proofs.Accepted.{Accepted, shape-clear, area-fits}
+use Rattle.median.specs.Sum.{share}
 use Rattle.window.specs.Mirror.{mirror}
 use Rattle.window.specs.Window.{padded}
 use Rattle.window.proofs.Mirror.{mirror-below}
@@ -27,8 +27,12 @@ module _ {s : Shape} {image : List ℕ} {room : ℕ} (given : Given s image room
   pub column-room : (j : ℕ) → j < s .columns → j * s .cycle + s .cycle ≤ s .columns * s .cycle
   column-room j h = part-end j (s .columns) (s .cycle) h
 
-  pub need-fits : s .columns * s .cycle ≤ 33554432
+  pub need-fits : s .columns * s .cycle ≤ mostColumns * levelCycle
   need-fits = mul-le-mul {n₁ = s .columns} {m₁ = s .cycle} {n₂ = mostColumns} {m₂ = levelCycle} (accepted .columns-fit) (accepted .cycle-fits)
+
+-- memory of the same length serves as well
+pub given-kept : {s : Shape} {image : List ℕ} {n m : ℕ} → Given s image n → m ≡ n → Given s image m
+given-kept g e = record { ready = g .ready; room = omega (arith, g .room) }
 
 -- the reading at row position p and column position l, at its place of the image
 pub record Spot (s : Shape) (image : List ℕ) (p l place : ℕ) : Type 0 where
@@ -58,12 +62,12 @@ spot {s} {image} g p l {row} {column} hp hl e d =
 -- the table's part for a reading y
 pub record Part (c : ℕ) (table : List ℕ) (y come : ℕ) : Type 0 where
   pub room : come + c ≤ length table
-  pub distances : (q : ℕ) → q < c → getD table (come + q) 0 ≡ distance c q y
+  pub shares : (q : ℕ) → q < c → getD table (come + q) 0 ≡ share c q y
 
 pub part : {s : Shape} {image table : List ℕ} {p l place come : ℕ} → s .cycle ≤ levelCycle → Table (s .cycle) table → Spot s image p l place
     → come ≡ s .cycle - getD image place 0 → Part (s .cycle) table (padded 0 s image p l) come
 part {s} {image} {table} {p} {l} {place} {come} small t o e = record {
   room = omega (arith, t .len, o .tick);
-  distances = λ q h. ap (λ (x : ℕ). getD table (x + q) 0) (e ∙ ap (λ (y : ℕ). s .cycle - y) (o .is))
+  shares = λ q h. ap (λ (x : ℕ). getD table (x + q) 0) (e ∙ ap (λ (y : ℕ). s .cycle - y) (o .is))
       ∙ table-part t (padded 0 s image p l) q (rw (o .is) at (o .tick)) h;
 }

@@ -1,4 +1,4 @@
--- The table's part for a reading holds the distances of all ticks to it. Assumes nothing.
+-- The table's part for a reading holds what the reading adds to the sums at all ticks, which is its distance. Assumes nothing.
 use Prim.Native.Nat.{ℕ, zero, suc, _+_, _-_, _*_, _%_, _^_, _≤_, _<_}
 use mathlib.Core.Path.{_≡_, refl, ap, sym, _∙_}
 use mathlib.Core.List.{List}
@@ -7,12 +7,14 @@ use native.Mathlib.Decide.{ℕ-discrete}
 use native.Mathlib.Nat.{add-comm, mod-lt}
 use lib.ListN.{length, getD, set, replicate, length-set, length-replicate}
 use lib.Seq.{getD-set-same, getD-set-other}
+use Rattle.refusal.specs.Limits.{levelCycle}
 use Rattle.cycle.specs.Distance.{distance}
 use Rattle.cycle.specs.Step.{ahead}
 use Rattle.cycle.proofs.DistanceLaws.{distance-half, distance-symmetric}
 use Rattle.cycle.proofs.Ways.{ahead-way, distance-way}
 use Rattle.cycle.proofs.Ways.Way.{straight}
-use Rattle.level_sums.specs.Table.{Table}
+use Rattle.median.specs.Sum.{share}
+use Rattle.level_sums.specs.Table.{Table, tableLength}
 
 -- the distance of q and y is that of the way from y to q and tick 0
 turn-back : (c y q : ℕ) → y < c → q < c → distance c (ahead c y q) 0 ≡ distance c q y
@@ -24,14 +26,14 @@ turn-back c y q h g =
     ∙ sym (distance-way (c - e) h g (omega (arith, r .less)) (r .way))
     ∙ distance-symmetric c y q
 
-pub table-part : {c : ℕ} {table : List ℕ} → Table c table → (y q : ℕ) → y < c → q < c → getD table (c - y + q) 0 ≡ distance c q y
-unfolding ahead
+pub table-part : {c : ℕ} {table : List ℕ} → Table c table → (y q : ℕ) → y < c → q < c → getD table (c - y + q) 0 ≡ share c q y
+unfolding ahead share
 table-part {c} {table} t y q h g =
     t .holds (c - y + q) (omega arith) ∙ ap (λ (x : ℕ). distance c (x % c) 0) (add-comm (c - y) q) ∙ turn-back c y q h g
 
 -- a loop has filled the table up to k
 pub record Filling (c : ℕ) (table : List ℕ) (k : ℕ) : Type 0 where
-  pub len : length table ≡ 8192
+  pub len : length table ≡ tableLength
   pub holds : (l : ℕ) → l < k → getD table l 0 ≡ distance c (l % c) 0
   pub small : (l : ℕ) → getD table l 0 < 2 ^ 16
 
@@ -40,10 +42,10 @@ zero-at zero k = refl
 zero-at (suc n) zero = refl
 zero-at (suc n) (suc k) = zero-at n k
 
-pub filling-none : {c : ℕ} → Filling c (replicate 8192 0) 0
-filling-none = record { len = length-replicate {A = ℕ} 8192 0; holds = λ l h. absurd (omega arith); small = λ l. omega (arith, zero-at 8192 l) }
+pub filling-none : {c : ℕ} → Filling c (replicate tableLength 0) 0
+filling-none = record { len = length-replicate {A = ℕ} tableLength 0; holds = λ l h. absurd (omega arith); small = λ l. omega (arith, zero-at tableLength l) }
 
-pub filling-turn : {c : ℕ} {table : List ℕ} {k v : ℕ} → Filling c table k → k < 8192 → 0 < c → c ≤ 4096 → v ≡ distance c (k % c) 0
+pub filling-turn : {c : ℕ} {table : List ℕ} {k v : ℕ} → Filling c table k → k < tableLength → 0 < c → c ≤ levelCycle → v ≡ distance c (k % c) 0
     → Filling c (set table k v) (k + 1)
 filling-turn {c} {table} {k} {v} f h some g e = record {
   len = length-set table k v ∙ f .len;

@@ -5,30 +5,33 @@ use mathlib.Core.List.{List}
 use Rattle.lists.specs.Difference.{difference}
 use Rattle.refusal.specs.Limits.{levelCycle}
 use Rattle.shape.specs.declared.Shape.{Shape}
-use Rattle.median.specs.Sum.{sumAt}
+use Rattle.median.specs.Sum.{shares}
 use Rattle.memory.specs.Memory.{Holds}
 use Rattle.window.specs.Window.{padded, stretch, block, window}
-use Rattle.window.specs.Ready.{Ready}
+use Rattle.lines.specs.Rows as Rows
 
--- the image has passed its tests, and the work memory has the numbers that the engine needs
-pub record Given (s : Shape) (image : List ℕ) (work : ℕ) : Type 0 where
-  pub ready : Ready levelCycle s image
-  pub room : s .columns * s .cycle + s .cycle ≤ work
+-- the numbers of work memory that the engine needs: C (N + 1)
+abbrev pub need : Shape → ℕ
+need s = s .columns * s .cycle + s .cycle
+
+-- what the engine is given
+abbrev pub Given : Shape → List ℕ → ℕ → Type 0
+Given = Rows.Given levelCycle need
 
 -- the sum at tick q of the window of row i and column j
 abbrev pub windowSum : Shape → List ℕ → ℕ → ℕ → ℕ → ℕ
-windowSum s image i j q = sumAt (s .cycle) q (window 0 s image i j)
+windowSum s image i j q = shares (s .cycle) q (window 0 s image i j)
 
 -- the sum at tick q of the first k mask rows of the window of row i and column 0
 abbrev pub blockSum : Shape → List ℕ → ℕ → ℕ → ℕ → ℕ
-blockSum s image i k q = difference (sumAt (s .cycle) q (block (padded 0 s image) (s .«mask_columns») i 0 k)) 0
+blockSum s image i k q = difference (shares (s .cycle) q (block (padded 0 s image) (s .«mask_columns») i 0 k)) 0
 
 -- the difference at tick q between row i + 1 and row i, at column j
 abbrev pub rowChange : Shape → List ℕ → ℕ → ℕ → ℕ → ℕ
 rowChange s image i j q =
     difference
-    (sumAt (s .cycle) q (stretch (padded 0 s image) (s .«mask_columns») (i + s .«mask_rows») j))
-    (sumAt (s .cycle) q (stretch (padded 0 s image) (s .«mask_columns») i j))
+    (shares (s .cycle) q (stretch (padded 0 s image) (s .«mask_columns») (i + s .«mask_rows») j))
+    (shares (s .cycle) q (stretch (padded 0 s image) (s .«mask_columns») i j))
 
 -- columns a up to b hold the sums of row i
 abbrev pub RowSums : Shape → List ℕ → ℕ → List ℕ → ℕ → ℕ → Type 0

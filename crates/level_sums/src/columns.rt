@@ -7,7 +7,7 @@ use memory::turn;
 use shape::Shape;
 use window::mirrored;
 ghost use mathlib.Core.Path.{_≡_};
-ghost use Prim.Native.Nat.{_+_, _-_, _*_, _≤_, _<_};
+ghost use Prim.Native.Nat.{_+_, _-_, _*_, _<_};
 ghost use lib.ListN.{length, getD};
 ghost use Rattle.refusal.specs.Limits.{levelCycle};
 ghost use Rattle.refusal.specs.Outcome.{Clear};

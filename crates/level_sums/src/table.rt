@@ -1,10 +1,15 @@
 // The table of distances: by it, the distances of all ticks to a reading are contiguous.
 use cycle::apart;
+use refusal::limits::LEVEL_CYCLE;
 ghost use mathlib.Core.Path.{_≡_};
 ghost use Prim.Native.Nat.{_*_, _%_, _≤_, _<_};
 ghost use lib.ListN.{replicate};
+ghost use Rattle.refusal.specs.Limits.{levelCycle};
 ghost use Rattle.cycle.specs.Distance.{distance};
-ghost use Rattle.level_sums.specs.Table.{Table};
+ghost use Rattle.level_sums.specs.Table.{Table, tableLength};
+
+// The numbers in the table: two rounds of the longest cycle that the engine takes.
+pub const TABLE: usize = (2 * LEVEL_CYCLE) as usize;
 
 // k modulo the cycle, for k below two cycles.
 fn fold(cycle: usize, k: usize) -> usize
@@ -16,7 +21,7 @@ fn fold(cycle: usize, k: usize) -> usize
 
 // The distance of tick k modulo the cycle to tick 0.
 fn distance_at(cycle: usize, k: usize) -> u32
-    requires { ⌜ (cycle ≤ 4096) × (k < 2 * cycle) ⌝ }
+    requires { ⌜ (cycle ≤ levelCycle) × (k < 2 * cycle) ⌝ }
     ensures { λ r. ⌜ r ≡ distance cycle (k % cycle) 0 ⌝ }
 {
     let tick = fold(cycle, k);
@@ -25,7 +30,7 @@ fn distance_at(cycle: usize, k: usize) -> u32
 
 // Fills a table of zeros.
 pub fn distances(cycle: usize, table: &mut [u32])
-    requires { ⌜ (cycle ≤ 4096) × (now table ≡ replicate 8192 0) ⌝ }
+    requires { ⌜ (cycle ≤ levelCycle) × (now table ≡ replicate tableLength 0) ⌝ }
     ensures { λ _. ⌜ Table cycle (now (table .exit)) ⌝ }
 {
     let mut k = 0;

@@ -1,1 +1,1 @@
-pub mod RankLaws
+pub mod Padding

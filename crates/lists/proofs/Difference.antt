@@ -1,7 +1,7 @@
 -- Laws of differences held modulo 2 ^ 32: a difference that is adjusted stays one, and a sum with its difference added is exact again.
 -- Assumes nothing.
 use Prim.Native.Nat.{ℕ, _+_, _*_, _/_, _%_, _^_, _<_}
-use mathlib.Core.Path.{_≡_, ap, _∙_}
+use mathlib.Core.Path.{_≡_, refl, ap, _∙_}
 use native.Mathlib.Omega.{arith}
 use Rattle.lists.specs.Difference.{difference, adjusted}
 
@@ -85,3 +85,33 @@ difference-is a b g e h = omega arith
 -- what comes in and goes out at once changes nothing
 pub adjusted-same : (a b x : ℕ) → adjusted (difference a b) x x ≡ difference a b
 adjusted-same a b x = difference-adjusted a b x x ∙ difference-both a b x
+
+-- two differences added one after the other are the difference of the sums
+congruent-mod : (x y : ℕ) → Congruent x y → x % 2 ^ 32 ≡ y % 2 ^ 32
+congruent-mod x y c = let e = c .2 in omega arith
+
+mod-added : (x y : ℕ) → (x % 2 ^ 32 + y) % 2 ^ 32 ≡ (x + y) % 2 ^ 32
+mod-added x y = omega arith
+
+pub difference-sum : (w a b x y : ℕ) → ((w + difference a b) % 2 ^ 32 + difference x y) % 2 ^ 32 ≡ (w + difference (x + a) (y + b)) % 2 ^ 32
+difference-sum w a b x y =
+    let p = difference-congruent a b in
+    let q = difference-congruent x y in
+    let r = difference-congruent (x + a) (y + b) in
+    mod-added (w + difference a b) (difference x y)
+    ∙ congruent-mod (w + difference a b + difference x y) (w + difference (x + a) (y + b))
+    (p .0 + q .0 + r .1, p .1 + q .1 + r .0, omega (arith, p .2, q .2, r .2))
+
+-- nothing less nothing
+pub difference-none : difference 0 0 ≡ 0
+unfolding difference
+difference-none = refl
+
+-- two additions are one, and none is none
+pub adjusted-twice : (d x y : ℕ) → adjusted (adjusted d x 0) y 0 ≡ adjusted d (x + y) 0
+unfolding adjusted
+adjusted-twice d x y = omega arith
+
+pub adjusted-none : (d : ℕ) → d < 2 ^ 32 → adjusted d 0 0 ≡ d
+unfolding adjusted
+adjusted-none d h = omega arith

@@ -8,3 +8,4 @@ pub mod First
 pub mod Least
 pub mod Difference
 pub mod Parts
+pub mod Total

@@ -3,4 +3,5 @@ pub mod Tabulate
 pub mod Joined
 pub mod First
 pub mod Least
+pub mod Total
 pub mod Difference

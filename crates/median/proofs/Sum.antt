@@ -1,5 +1,5 @@
 -- Laws of sums of distances and of grids. Assumes nothing.
-use Prim.Native.Nat.{ℕ, zero, suc, _+_, _*_, _≤_, _<_}
+use Prim.Native.Nat.{ℕ, zero, suc, _+_, _*_, _/_, _≤_, _<_}
 use mathlib.Core.Path.{_≡_, refl, ap}
 use mathlib.Core.Logic.{inl, inr}
 use mathlib.Core.List.{List, [], _∷_, _++_}
@@ -7,9 +7,10 @@ use native.Mathlib.Omega.{arith}
 use native.Mathlib.Nat.{mul-lt-mul-of-pos-left}
 use lib.ListN.{length, replicate}
 use Rattle.lists.specs.Members.{In}
+use Rattle.lists.specs.Total.{total}
 use Rattle.cycle.specs.Distance.{distance}
 use Rattle.cycle.proofs.DistanceLaws.{distance-half, distance-scaled}
-use Rattle.median.specs.Sum.{sumAt, onGrid, Ticks}
+use Rattle.median.specs.Sum.{sumAt, share, shares, onGrid, Ticks}
 
 module _ (c p : ℕ) where
   pub sum-append : (xs ys : List ℕ) → sumAt c p (xs ++ ys) ≡ sumAt c p xs + sumAt c p ys
@@ -28,6 +29,17 @@ pub sum-half : (c p : ℕ) (zs : List ℕ) → p < c → Ticks c zs → 2 * sumA
 unfolding sumAt
 sum-half c p [] h t = omega arith
 sum-half c p (z ∷ zs) h t = omega (arith, distance-half c p z h (t .0), sum-half c p zs h (t .1))
+
+-- what the readings add is their sum
+pub shares-sum : (c q : ℕ) (zs : List ℕ) → shares c q zs ≡ sumAt c q zs
+unfolding total sumAt share
+shares-sum c q [] = refl
+shares-sum c q (z ∷ zs) = ap (λ (t : ℕ). distance c q z + t) (shares-sum c q zs)
+
+-- a reading adds at most half a cycle, whatever the numbers are
+pub share-half : (c q z : ℕ) → share c q z ≤ c / 2
+unfolding share distance
+share-half c q z = omega arith
 
 -- On the grid of n parts every sum at a tick is n times as large: sums at ticks and at places compare.
 pub sum-scaled : (n c p : ℕ) (zs : List ℕ) → sumAt (n * c) (n * p) (onGrid n zs) ≡ n * sumAt c p zs

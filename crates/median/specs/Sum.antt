@@ -2,12 +2,21 @@
 use Prim.Native.Nat.{ℕ, _+_, _*_, _<_}
 use mathlib.Core.List.{List, [], _∷_}
 use Rattle.lists.specs.Members.{Each}
+use Rattle.lists.specs.Total.{total}
 use Rattle.cycle.specs.Distance.{distance}
 
 -- the total of the distances from a point to the readings, repeats counted (document 000, equations 1 and 12)
 unfoldable pub sumAt : ℕ → ℕ → List ℕ → ℕ
 sumAt c p [] = 0
 sumAt c p (z ∷ zs) = distance c p z + sumAt c p zs
+
+-- what a reading z adds to the engines' sum at tick q: its distance
+unfoldable pub share : ℕ → ℕ → ℕ → ℕ
+share c q z = distance c q z
+
+-- the engines' sum at a tick; `shares-sum`: it is `sumAt`
+abbrev pub shares : ℕ → ℕ → List ℕ → ℕ
+shares c q = total (share c q)
 
 -- the readings as places of the grid of n parts to the tick: tick z is place n z, and the cycle has n c places
 unfoldable pub onGrid : ℕ → List ℕ → List ℕ

@@ -1,13 +1,13 @@
 -- Laws of the lowest number: none is lower, and it is one of them. Assumes nothing.
-use Prim.Native.Nat.{ℕ, zero, suc, _+_, _^_, _≤_, _<_, min}
+use Prim.Native.Nat.{ℕ, zero, suc, _+_, _-_, _^_, _≤_, _<_, min}
 use mathlib.Core.Path.{_≡_, refl}
 use native.Mathlib.Omega.{arith}
 use native.Mathlib.Decide.{decLe, ℕ-discrete}
 use native.Mathlib.Numerals.{add-one}
-use Rattle.memory.specs.Memory.{lowest}
+use Rattle.memory.specs.Memory.{Signed, lowest}
 
 module _ (f : ℕ → ℕ) where
-  pub lowest-none : lowest f 0 ≡ 4294967295
+  pub lowest-none : lowest f 0 ≡ 2 ^ 31 - 1
   unfolding lowest
   lowest-none = refl
 
@@ -28,7 +28,13 @@ module _ (f : ℕ → ℕ) where
       go (yes e) r = rw e (omega arith)
       go (no e) r = let l = r (omega arith) in omega arith
 
-  pub lowest-found : (n : ℕ) → 0 < n → ((q : ℕ) → q < n → f q < 2 ^ 32) → (q : ℕ) × (q < n) × (f q ≡ lowest f n)
+  -- the lowest so far is a signed number
+  pub lowest-signed : (n : ℕ) → lowest f n < 2 ^ 31
+  unfolding lowest
+  lowest-signed zero = omega arith
+  lowest-signed (suc n) = omega (arith, lowest-signed n)
+
+  pub lowest-found : (n : ℕ) → 0 < n → Signed f n → (q : ℕ) × (q < n) × (f q ≡ lowest f n)
   unfolding lowest
   lowest-found zero h small = absurd (omega arith)
   lowest-found (suc zero) h small = (0, omega arith, omega (arith, small 0 (omega arith)))

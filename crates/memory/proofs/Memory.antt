@@ -1,9 +1,10 @@
 -- Laws of changed parts of memory: one store more. Assumes nothing.
 use Prim.Native.Nat.{ℕ, _+_, _≤_, _<_}
-use mathlib.Core.Path.{_≡_, refl, _∙_}
+use mathlib.Core.Path.{_≡_, refl, ap, sym, _∙_}
 use mathlib.Core.List.{List}
 use native.Mathlib.Omega.{arith}
 use native.Mathlib.Decide.{ℕ-discrete}
+use native.Mathlib.Nat.{zero-add}
 use lib.ListN.{length, getD, set, length-set}
 use lib.Seq.{getD-set-same, getD-set-other}
 use Rattle.memory.specs.Memory.{Holds, Changed, Outside, ChangedBoth}
@@ -28,9 +29,16 @@ module _ {w₀ : List ℕ} {base : ℕ} {f : ℕ → ℕ} where
     after = λ k h. getD-set-other w (base + q) k v 0 (omega arith) ∙ c .after k (omega arith);
   }
 
+  -- the loop has come to the end
+  pub changed-done : {w : List ℕ} {q n : ℕ} → Changed w₀ w base q f → q ≡ n → Changed w₀ w base n f
+  changed-done c e = rw e at c
+
 -- the same for a part that starts at place 0
 pub changed-turn-first : {w₀ w : List ℕ} {f : ℕ → ℕ} {q v : ℕ} → Changed w₀ w 0 q f → q < length w₀ → v ≡ f q → Changed w₀ (set w q v) 0 (q + 1) f
 changed-turn-first {q = q} c room e = let z : 0 + q ≡ q = omega arith in rw z at (changed-turn c (omega arith) e)
+
+pub changed-first : {w₀ w : List ℕ} {n : ℕ} {f : ℕ → ℕ} → Changed w₀ w 0 n f → (q : ℕ) → q < n → getD w q 0 ≡ f q
+changed-first {w = w} c q h = ap (λ (k : ℕ). getD w k 0) (sym (zero-add q)) ∙ c .holds q h
 
 module _ {w₀ : List ℕ} {base other : ℕ} {f g : ℕ → ℕ} where
   pub both-start : ChangedBoth w₀ w₀ base other 0 f g
@@ -118,4 +126,22 @@ both-after x y order = record {
   between = λ k i j. y .between k i j ∙ x .before k j;
   second = y .second;
   after = λ k i. y .after k i ∙ x .after k i;
+}
+
+-- a part before the one outside of which all is as it was, changed too
+pub outside-lower : {w₀ w w′ : List ℕ} {base n next m all : ℕ} {f : ℕ → ℕ} → Outside w₀ w next m → Changed w w′ base n f → next ≡ base + n → all ≡ n + m
+    → Outside w₀ w′ base all
+outside-lower x y e d = record {
+  len = y .len ∙ x .len;
+  before = λ k h. y .before k h ∙ x .before k (omega arith);
+  after = λ k h. y .after k (omega arith) ∙ x .after k (omega arith);
+}
+
+-- a part of the part outside of which all is as it was
+pub outside-within : {w₀ w w′ : List ℕ} {base n at m : ℕ} {f : ℕ → ℕ} → Outside w₀ w base n → Changed w w′ at m f → base ≤ at → at + m ≤ base + n
+    → Outside w₀ w′ base n
+outside-within x y e d = record {
+  len = y .len ∙ x .len;
+  before = λ k h. y .before k (omega arith) ∙ x .before k h;
+  after = λ k h. y .after k (omega arith) ∙ x .after k h;
 }

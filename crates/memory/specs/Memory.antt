@@ -30,7 +30,11 @@ pub record ChangedBoth (w₀ w : List ℕ) (base other n : ℕ) (f g : ℕ → �
   pub second : Holds w other n g
   pub after : (k : ℕ) → other + n ≤ k → getD w k 0 ≡ getD w₀ k 0
 
--- the lowest of f 0 to f (n - 1), all of which are below 2 ^ 32
+-- f 0 to f (n - 1) are the same as signed numbers of 32 bits
+abbrev pub Signed : (ℕ → ℕ) → ℕ → Type 0
+Signed f n = (q : ℕ) → q < n → f q < 2 ^ 31
+
+-- the lowest of f 0 to f (n - 1), all of which are signed numbers
 unfoldable pub lowest : (ℕ → ℕ) → ℕ → ℕ
-lowest f zero = 2 ^ 32 - 1
+lowest f zero = 2 ^ 31 - 1
 lowest f (suc n) = min (f n) (lowest f n)

@@ -6,7 +6,7 @@ use std::num::wrapping_sub_u32;
 ghost use mathlib.Core.Path.{_≡_};
 ghost use Prim.Native.Nat.{ℕ, _+_, _^_, _≤_, _<_, min};
 ghost use lib.ListN.{length, getD};
-ghost use Rattle.memory.specs.Memory.{Changed, ChangedBoth, lowest};
+ghost use Rattle.memory.specs.Memory.{Changed, ChangedBoth, Signed, lowest};
 ghost use Rattle.memory.specs.Parts.{zeros, added, swapped, turned, summed, copied};
 
 // Sets n numbers to 0.
@@ -45,6 +45,18 @@ pub fn add(work: &mut [u32], base: usize, table: &[u32], come: usize, n: usize)
     }
 }
 
+// Puts n numbers of a table in place of those that are there.
+pub fn put(work: &mut [u32], base: usize, table: &[u32], come: usize, n: usize)
+    requires { ⌜ (base + n ≤ length (now work)) × (come + n ≤ length (now table)) ⌝ }
+    ensures { λ _. ⌜ Changed (now (work .entry)) (now (work .exit)) base n (copied (now (table .entry)) come) ⌝ }
+{
+    let mut q = 0;
+    while q < n {
+        work[base + q] = table[come + q];
+        q += 1;
+    }
+}
+
 // Adds n numbers of a table and takes n others off.
 pub fn swap(work: &mut [u32], base: usize, table: &[u32], come: usize, go: usize, n: usize)
     requires { ⌜ (base + n ≤ length (now work)) × (come + n ≤ length (now table)) × (go + n ≤ length (now table)) ⌝ }
@@ -58,19 +70,20 @@ pub fn swap(work: &mut [u32], base: usize, table: &[u32], come: usize, go: usize
     }
 }
 
-// The lesser of two numbers.
-pub fn lower(a: u32, b: u32) -> u32
+// The lesser of two numbers, compared as signed ones, which takes fewer packed instructions.
+fn lower(a: u32, b: u32) -> u32
+    requires { ⌜ (a < 2 ^ 31) × (b < 2 ^ 31) ⌝ }
     ensures { λ r. ⌜ r ≡ min a b ⌝ }
 {
-    if a < b { a } else { b }
+    if (a as i32) < (b as i32) { a } else { b }
 }
 
 // The lowest of n numbers.
 pub fn lowest_of(work: &[u32], base: usize, n: usize) -> u32
-    requires { ⌜ base + n ≤ length (now work) ⌝ }
+    requires { ⌜ (base + n ≤ length (now work)) × Signed (copied (now work) base) n ⌝ }
     ensures { λ r. ⌜ r ≡ lowest (copied (now (work .entry)) base) n ⌝ }
 {
-    let mut least: u32 = 4294967295;
+    let mut least: u32 = 2147483647;
     let mut q = 0;
     while q < n {
         least = lower(work[base + q], least);
@@ -95,12 +108,13 @@ pub fn turn(
     requires { ⌜ (base + n ≤ change) × (change + n ≤ length (now work)) ⌝ }
     requires { ⌜ (in1 + n ≤ length (now table)) × (in2 + n ≤ length (now table)) × (out1 + n ≤ length (now table)) × (out2 + n ≤ length (now table)) ⌝ }
     requires { ⌜ ((k : ℕ) → getD (now table) k 0 < 2 ^ 16) ⌝ }
+    requires { ⌜ Signed (summed (now work) base (turned (now work) change (now table) in1 in2 out1 out2)) n ⌝ }
     ensures { λ r. ⌜ (ChangedBoth (now (work .entry)) (now (work .exit)) base change n
         (summed (now (work .entry)) base (turned (now (work .entry)) change (now (table .entry)) in1 in2 out1 out2))
         (turned (now (work .entry)) change (now (table .entry)) in1 in2 out1 out2))
         × (r ≡ lowest (summed (now (work .entry)) base (turned (now (work .entry)) change (now (table .entry)) in1 in2 out1 out2)) n) ⌝ }
 {
-    let mut least: u32 = 4294967295;
+    let mut least: u32 = 2147483647;
     let mut q = 0;
     while q < n {
         let more = wrapping_add_u32(work[change + q], table[in1 + q] + table[in2 + q]);

@@ -1,1 +1,1 @@
-pub mod Zeros
+pub mod Kept

@@ -4,6 +4,7 @@
 // internal: its `requires` is met by the text memory of the programs.
 use libc::STDIN_FILENO;
 use libc::STDOUT_FILENO;
+use sheet::MOST_BYTES;
 use sheet::MOST_TEXT;
 use sheet::SheetAnswer;
 use sheet::sheet;
@@ -11,6 +12,11 @@ ghost use mathlib.Core.Path.{_≡_};
 ghost use Prim.Native.Nat.{_≤_};
 ghost use lib.ListN.{length};
 ghost use Rattle.sheet.specs.Sheet.{mostText, textLength, Sheet};
+
+// "Its work memory has 16,384 numbers, its readings and output buffers 8,192 each."
+const BUFFER: usize = 8192;
+
+const WORK: usize = 16384;
 
 // The length of the whole text.
 fn text_length(answer: SheetAnswer) -> usize
@@ -41,13 +47,12 @@ pub fn print_sheet(
 }
 
 // Prints the sheet of the record that standard input holds. A record has at most 16,384 bytes, so one byte
-// more is read and no further: by that length alone `sheet` refuses what is too long. The memory has the
-// paper's sizes.
+// more is read and no further: by that length alone `sheet` refuses what is too long.
 pub fn print_input() {
-    let mut record = [0u8; 16385];
-    let mut readings = [0u16; 8192];
-    let mut output = [0u16; 8192];
-    let mut work = [0u32; 16384];
+    let mut record = [0u8; MOST_BYTES + 1];
+    let mut readings = [0u16; BUFFER];
+    let mut output = [0u16; BUFFER];
+    let mut work = [0u32; WORK];
     let mut text = [0u8; MOST_TEXT];
     let n = io::read_full(STDIN_FILENO, &mut record);
     print_sheet(

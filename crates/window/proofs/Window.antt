@@ -1,18 +1,18 @@
 -- Laws of the window of an image that has passed its tests. Assumes nothing.
-use Prim.Native.Nat.{ℕ, _+_, _*_, _^_, _≤_, _<_}
+use Prim.Native.Nat.{ℕ, _+_, _-_, _*_, _^_, _≤_, _<_}
 use mathlib.Core.Path.{_≡_, subst, _∙_}
 use mathlib.Core.List.{List}
 use native.Mathlib.Omega.{arith}
 use native.Mathlib.Nat.{mul-le-mul, mul-le-mul-right, add-mul, mul-assoc}
 use lib.ListN.{length}
 use Rattle.lists.specs.Members.{In}
-use Rattle.refusal.specs.Limits.{longestCycle}
+use Rattle.refusal.specs.Limits.{longestCycle, mostMaskRows, mostMaskColumns}
 use Rattle.cycle.proofs.Accepted.{reading-below}
 use Rattle.shape.specs.Rules.{reach}
 use Rattle.shape.specs.declared.Shape.{Shape}
 use Rattle.shape.proofs.Accepted.{Accepted, shape-clear}
-use Rattle.median.specs.Sum.{sumAt, Ticks}
-use Rattle.median.proofs.Sum.{sum-half}
+use Rattle.median.specs.Sum.{sumAt, shares, Ticks}
+use Rattle.median.proofs.Sum.{sum-half, shares-sum}
 use Rattle.window.specs.Mirror.{mirror}
 use Rattle.window.specs.Window.{padded, window, centre}
 use Rattle.window.specs.Ready.{Ready}
@@ -46,7 +46,7 @@ module _ {limit : ℕ} {s : Shape} {image : List ℕ} (ready : Ready limit s ima
     pub window-ticks : Ticks (s .cycle) (window 0 s image i j)
     unfolding window
     window-ticks =
-        each-block (λ z. z < s .cycle) (padded 0 s image) (s .«mask_columns») i j (s .«mask_rows»)
+        each-block (padded 0 s image) (s .«mask_columns») (λ z. z < s .cycle) i j (s .«mask_rows»)
         (λ a l p q u v. padded-below a l (omega (arith, sizes .mask-rows-odd)) (omega (arith, sizes .mask-columns-odd)))
 
     pub window-length : length (window 0 s image i j) ≡ s .«mask_rows» * s .«mask_columns»
@@ -69,18 +69,19 @@ module _ {limit : ℕ} {s : Shape} {image : List ℕ} (ready : Ready limit s ima
     unfolding centre
     centre-below = reading-below (s .cycle) image _ (ready .good) (omega (arith, ready .size, spot-below (s .rows) (s .columns) i j hi hj))
 
-    -- every sum at a tick is below 2 ^ 32
-    pub sum-small : (q : ℕ) → q < s .cycle → sumAt (s .cycle) q (window 0 s image i j) < 2 ^ 32
-    sum-small q hq =
-        let a : s .«mask_rows» * s .«mask_columns» ≤ 255 * 255 =
-        mul-le-mul {n₁ = s .«mask_rows»} {m₁ = s .«mask_columns»} {n₂ = 255} {m₂ = 255} (sizes .mask-rows-fit) (sizes .mask-columns-fit) in
-        let b : s .«mask_rows» * s .«mask_columns» * s .cycle ≤ 65025 * 65535 =
-        mul-le-mul {n₁ = s .«mask_rows» * s .«mask_columns»} {m₁ = s .cycle} {n₂ = 65025} {m₂ = 65535} a (omega (arith, sizes .cycle-fits)) in
-        let l : 2 * sumAt (s .cycle) q (window 0 s image i j) ≤ s .«mask_rows» * s .«mask_columns» * s .cycle =
+    -- every sum at a tick is below the number that stands for none
+    pub shares-small : (q : ℕ) → q < s .cycle → shares (s .cycle) q (window 0 s image i j) < 2 ^ 31 - 1
+    shares-small q hq =
+        let readings = s .«mask_rows» * s .«mask_columns» in
+        let a : readings ≤ mostMaskRows * mostMaskColumns =
+        mul-le-mul {n₁ = s .«mask_rows»} {m₁ = s .«mask_columns»} {n₂ = mostMaskRows} {m₂ = mostMaskColumns} (sizes .mask-rows-fit) (sizes .mask-columns-fit) in
+        let b : readings * s .cycle ≤ mostMaskRows * mostMaskColumns * longestCycle =
+        mul-le-mul {n₁ = readings} {m₁ = s .cycle} {n₂ = mostMaskRows * mostMaskColumns} {m₂ = longestCycle} a (omega (arith, sizes .cycle-fits)) in
+        let l : 2 * sumAt (s .cycle) q (window 0 s image i j) ≤ readings * s .cycle =
         rw window-length at (sum-half (s .cycle) q (window 0 s image i j) hq window-ticks) in
-        half (sumAt (s .cycle) q (window 0 s image i j)) (s .«mask_rows» * s .«mask_columns» * s .cycle) l b
+        rw (shares-sum (s .cycle) q (window 0 s image i j)) (half (sumAt (s .cycle) q (window 0 s image i j)) (readings * s .cycle) l b)
       where
-        half : (x y : ℕ) → 2 * x ≤ y → y ≤ 65025 * 65535 → x < 2 ^ 32
+        half : (x y : ℕ) → 2 * x ≤ y → y ≤ mostMaskRows * mostMaskColumns * longestCycle → x < 2 ^ 31 - 1
         half x y h g = omega arith
 
     -- the number of readings is odd

@@ -1,10 +1,11 @@
 -- Document 01, "The window": the readings under a mask. An image is stored row by row; positions count the padded image, so that
 -- the window of row i and column j covers positions i to i + 2r and j to j + 2t. Over any kind of reading; d is what a place
 -- outside the list would give, which no window has.
-use Prim.Native.Nat.{ℕ, zero, suc, _+_, _*_}
-use mathlib.Core.List.{List, [], _++_}
+use Prim.Native.Nat.{ℕ, _+_, _*_}
+use mathlib.Core.List.{List}
 use lib.ListN.{getD}
 use Rattle.lists.specs.Tabulate.{tabulate}
+use Rattle.lists.specs.Joined.{joined}
 use Rattle.shape.specs.Rules.{reach}
 use Rattle.shape.specs.declared.Shape.{Shape}
 use Rattle.window.specs.Mirror.{mirror}
@@ -20,8 +21,7 @@ stretch y w i j = tabulate (y i) j w
 
 -- k such stretches, from row i on, row by row
 unfoldable pub block : {A : Type 0} → (ℕ → ℕ → A) → ℕ → ℕ → ℕ → ℕ → List A
-block y w i j zero = []
-block y w i j (suc k) = stretch y w i j ++ block y w (suc i) j k
+block y w i j k = joined (λ a. stretch y w a j) i k
 
 -- the window of row i and column j
 unfoldable pub window : {A : Type 0} → A → Shape → List A → ℕ → ℕ → List A

@@ -21,10 +21,9 @@ fill-requires : tie.Need-fill-requires
 fill-requires c κs =
     let a = c .before .before .before .before .before .before .before .before .args in
     let said = sym (rw (c .before .before .enum-told .given .1) at (c .before .before .before .before .judge .ensures)) in
-    let i = call-tested (a .engine) (a .shape) (a .first) (a .end) (a .input .now) (length (a .output .now)) (length (a .work .now)) said in (
-      (call-ready (a .engine) (a .shape) (a .first) (a .end) (a .input .now) (length (a .output .now)) (length (a .work .now)) said, i .work-room),
-      (i .order, i .within, i .output-room),
-    )
+    let i = call-tested (a .engine) (a .shape) (a .first) (a .end) (a .input .now) (length (a .output .now)) (length (a .work .now)) said in
+    let ready = call-ready (a .engine) (a .shape) (a .first) (a .end) (a .input .now) (length (a .output .now)) (length (a .work .now)) said in
+    record { given = record { ready = ready; room = i .work-room }; order = i .order; within = i .within; output-room = i .output-room }
 
 need-of-requires : tie.Need-need-of-requires
 need-of-requires c κs =
@@ -37,7 +36,7 @@ clear-requires c κs =
     let a = c .before .before .before .before .before .before .before .before .before .before .before .before .before .before .before .args in
     let said = sym (rw (c .before .before .before .before .before .before .before .before .before .enum-told .given .1) at (c .before .before .before .before .before .before .before .before .before .before .before .judge .ensures)) in
     let i = call-tested (a .engine) (a .shape) (a .first) (a .end) (a .input .now) (length (a .output .now)) (length (a .work .now)) said in
-    omega (arith, i .work-room, c .need-of .ensures, c .before .before .before .before .before .before .fill .ensures .1 .len)
+    omega (arith, i .work-room, c .need-of .ensures, c .before .before .before .before .before .before .fill .ensures .outside .len)
 
 returns : tie.Need-returns
 returns c = record { answer = rw (c .before .f .given .1) at (c .before .before .before .judge .ensures); output = refl; work = refl }
@@ -56,8 +55,8 @@ returns-2 c =
     let x = c .before .before .before .before .before .before .before .before .before .fill .ensures in
     record {
       answer = said;
-      output = x .0;
-      work = zeroed (a .work .now) (i .work-room) (x .1 .len) (λ k h. x .1 .after k (omega arith)) (rw (c .before .before .before .need-of .ensures) at (c .before .before .clear .ensures));
+      output = x .phases;
+      work = zeroed (a .work .now) (i .work-room) (x .outside .len) (λ k h. x .outside .after k (omega arith)) (rw (c .before .before .before .need-of .ensures) at (c .before .before .clear .ensures));
     }
 
 pub run-spec : {M : Type 1} → statement M

@@ -7,18 +7,6 @@ use Rattle.cycle.proofs.Ways.{mod-low, mod-high}
 use Rattle.level_choice.proofs.ahead_by.Statement.{statement}
 use Rattle.level_choice.proofs.ahead_by.Tie as tie
 
-add-if1 : tie.Need-add-if1
-add-if1 c = search needs
-
-add-result : tie.Need-add-result
-add-result c = search needs
-
-add-result-2 : tie.Need-add-result-2
-add-result-2 c = search needs
-
-sub-result : tie.Need-sub-result
-sub-result c = search needs
-
 returns : tie.Need-returns
 returns c = let a = c .before .args in sym (mod-low (a .cycle) (a .a + a .e) (a .a + a .e) (omega arith) refl)
 
@@ -26,4 +14,12 @@ returns-2 : tie.Need-returns-2
 returns-2 c = let a = c .before .args in sym (mod-high (a .cycle) (a .a + a .e - a .cycle) (a .a + a .e) (omega arith) (omega arith))
 
 pub ahead-by-spec : {M : Type 1} → statement M
-ahead-by-spec = tie.close (tie.spec add-if1 add-result add-result-2 sub-result returns returns-2)
+ahead-by-spec =
+    tie.close
+    (tie.spec
+    (λ c. search needs)
+    (λ c. search needs)
+    (λ c. search needs)
+    (λ c. search needs)
+    returns
+    returns-2)

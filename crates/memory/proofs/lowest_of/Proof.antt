@@ -3,7 +3,7 @@ use Prim.Native.Nat.{_-_, _≤_}
 use mathlib.Core.Path.{refl, _≡_, sym}
 use native.Mathlib.Omega.{arith}
 use borrow.Author.Needs.{needs}
-use Rattle.memory.proofs.Lowest.{lowest-none, lowest-turn}
+use Rattle.memory.proofs.Lowest.{lowest-none, lowest-turn, lowest-signed}
 use Rattle.memory.specs.Parts.{copied}
 use Rattle.memory.specs.Memory.{lowest}
 use Rattle.memory.proofs.lowest_of.Statement.{statement}
@@ -28,7 +28,10 @@ shared-slice-read-lower : tie.Need-shared-slice-read-lower Inv-loop μ-loop
 shared-slice-read-lower c = search needs
 
 lower-requires : tie.Need-lower-requires Inv-loop μ-loop
-lower-requires c κs = search needs
+lower-requires c κs =
+    let l = c .before .before .loop in
+    let s = c .before .before .before .before in
+    (s .pre .1 (l .q) (omega arith), omega (arith, l .inv .1, lowest-signed (copied (s .args .work .now) (s .args .base)) (l .q)))
 
 add-q : tie.Need-add-q Inv-loop μ-loop
 add-q c = search needs

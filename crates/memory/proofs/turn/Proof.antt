@@ -1,11 +1,12 @@
--- `memory::turn` meets its contract. Assumes nothing.
+-- `memory::turn` meets its contract: at each tick the new difference and the new sum are those of the contract, and the lowest so far
+-- is that of the sums before it. Assumes nothing.
 use Prim.Native.Nat.{_%_, ℕ, _+_, _-_, _^_, _≤_, _<_}
 use mathlib.Core.Path.{_≡_, ap, sym, _∙_}
 use native.Mathlib.Omega.{arith}
 use borrow.Author.Needs.{needs}
 use lib.Seq.{getD-set-other}
 use lib.ListN.{set, getD, length-set}
-use Rattle.memory.proofs.Lowest.{lowest-none, lowest-turn}
+use Rattle.memory.proofs.Lowest.{lowest-none, lowest-turn, lowest-signed}
 use Rattle.memory.proofs.Memory.{both-start, both-turn}
 use Rattle.memory.specs.Parts.{turned, summed}
 use Rattle.memory.specs.Memory.{ChangedBoth, lowest}
@@ -22,138 +23,75 @@ Inv-loop work₀ base change table in1 in2 out1 out2 n least₀ q₀ work least 
 abbrev μ-loop : tie.MeasureT-loop
 μ-loop work₀ base change table in1 in2 out1 out2 n least₀ q₀ work least q = n - q
 
+-- the tick at hand, and where the call began
+abbrev at-tick : tie.After-wrapping-sub-u32 Inv-loop μ-loop → tie.At-loop Inv-loop μ-loop
+at-tick c = c .before .before .before .before .before .before .before .before
+
+abbrev start : tie.At-loop Inv-loop μ-loop → tie.Start Inv-loop μ-loop
+start c = c .before .before .before
+
+-- the new difference
+turned-here : (c : tie.After-wrapping-sub-u32 Inv-loop μ-loop) → let l = at-tick c .loop in let a = start (at-tick c) .args in
+    c .wrapping-sub-u32 .result ≡ turned (a .work .now) (a .change) (a .table .now) (a .in1) (a .in2) (a .out1) (a .out2) (l .q)
+turned-here c =
+    let l = at-tick c .loop in
+    let a = start (at-tick c) .args in
+    let x = getD (a .table .now) (a .in1 + l .q) 0 + getD (a .table .now) (a .in2 + l .q) 0 in
+    let y = getD (a .table .now) (a .out1 + l .q) 0 + getD (a .table .now) (a .out2 + l .q) 0 in
+    let fit : c .wrapping-sub-u32 .result < 2 ^ 32 = omega arith in
+    adjusted-by-code (getD (l .work) (a .change + l .q) 0) x y _ _ fit (c .before .before .before .wrapping-add-u32 .ensures) (c .wrapping-sub-u32 .ensures)
+    ∙ ap (λ (d : ℕ). adjusted d x y) (l .inv .1 .after (a .change + l .q) (omega arith))
+
+-- the new sum
+abbrev subtracted : tie.After-wrapping-add-u322 Inv-loop μ-loop → tie.After-wrapping-sub-u32 Inv-loop μ-loop
+subtracted c = c .before .before
+
+summed-here : (c : tie.After-wrapping-add-u322 Inv-loop μ-loop) → let l = at-tick (subtracted c) .loop in let a = start (at-tick (subtracted c)) .args in
+    c .wrapping-add-u322 .result ≡ summed (a .work .now) (a .base) (turned (a .work .now) (a .change) (a .table .now) (a .in1) (a .in2) (a .out1) (a .out2)) (l .q)
+summed-here c =
+    let l = at-tick (subtracted c) .loop in
+    let a = start (at-tick (subtracted c)) .args in
+    let z = subtracted c .wrapping-sub-u32 .result in
+    let old : getD (set (l .work) (a .change + l .q) z) (a .base + l .q) 0 ≡ getD (a .work .now) (a .base + l .q) 0 =
+    getD-set-other (l .work) (a .change + l .q) (a .base + l .q) z 0 (omega arith) ∙ l .inv .1 .between (a .base + l .q) (omega arith) (omega arith) in
+    c .wrapping-add-u322 .ensures ∙ ap (λ (d : ℕ). (d + z) % 2 ^ 32) old
+    ∙ ap (λ (d : ℕ). (getD (a .work .now) (a .base + l .q) 0 + d) % 2 ^ 32) (turned-here (subtracted c))
+
 loop-holds : tie.Need-loop-holds Inv-loop μ-loop
 loop-holds c = (search needs, both-start, sym (lowest-none _))
 
-add-wrapping-add-u32 : tie.Need-add-wrapping-add-u32 Inv-loop μ-loop
-add-wrapping-add-u32 c = search needs
-
-mul-wrapping-add-u32 : tie.Need-mul-wrapping-add-u32 Inv-loop μ-loop
-mul-wrapping-add-u32 c = search needs
-
-slice-read-wrapping-add-u32 : tie.Need-slice-read-wrapping-add-u32 Inv-loop μ-loop
-slice-read-wrapping-add-u32 c = search needs
-
-add-wrapping-add-u32-2 : tie.Need-add-wrapping-add-u32-2 Inv-loop μ-loop
-add-wrapping-add-u32-2 c = search needs
-
-mul-wrapping-add-u32-2 : tie.Need-mul-wrapping-add-u32-2 Inv-loop μ-loop
-mul-wrapping-add-u32-2 c = search needs
-
-shared-slice-read-wrapping-add-u32 : tie.Need-shared-slice-read-wrapping-add-u32 Inv-loop μ-loop
-shared-slice-read-wrapping-add-u32 c = search needs
-
-add-wrapping-add-u32-3 : tie.Need-add-wrapping-add-u32-3 Inv-loop μ-loop
-add-wrapping-add-u32-3 c = search needs
-
-mul-wrapping-add-u32-3 : tie.Need-mul-wrapping-add-u32-3 Inv-loop μ-loop
-mul-wrapping-add-u32-3 c = search needs
-
-shared-slice-read-wrapping-add-u32-2 :
-    tie.Need-shared-slice-read-wrapping-add-u32-2 Inv-loop μ-loop
-shared-slice-read-wrapping-add-u32-2 c = search needs
-
 add-wrapping-add-u32-4 : tie.Need-add-wrapping-add-u32-4 Inv-loop μ-loop
 add-wrapping-add-u32-4 c =
-    let l = c .before .before .before .before .loop in
-    let a = c .before .before .before .before .before .before .before in
-    omega (arith, a .pre .1 .1 (a .args .in1 + l .q), a .pre .1 .1 (a .args .in2 + l .q))
-
-wrapping-add-u32-requires : tie.Need-wrapping-add-u32-requires Inv-loop μ-loop
-wrapping-add-u32-requires c κs = search needs
-
-add-wrapping-sub-u32 : tie.Need-add-wrapping-sub-u32 Inv-loop μ-loop
-add-wrapping-sub-u32 c = search needs
-
-mul-wrapping-sub-u32 : tie.Need-mul-wrapping-sub-u32 Inv-loop μ-loop
-mul-wrapping-sub-u32 c = search needs
-
-shared-slice-read-wrapping-sub-u32 : tie.Need-shared-slice-read-wrapping-sub-u32 Inv-loop μ-loop
-shared-slice-read-wrapping-sub-u32 c = search needs
-
-add-wrapping-sub-u32-2 : tie.Need-add-wrapping-sub-u32-2 Inv-loop μ-loop
-add-wrapping-sub-u32-2 c = search needs
-
-mul-wrapping-sub-u32-2 : tie.Need-mul-wrapping-sub-u32-2 Inv-loop μ-loop
-mul-wrapping-sub-u32-2 c = search needs
-
-shared-slice-read-wrapping-sub-u32-2 :
-    tie.Need-shared-slice-read-wrapping-sub-u32-2 Inv-loop μ-loop
-shared-slice-read-wrapping-sub-u32-2 c = search needs
+    let l = c .before .before .before .before in
+    let s = start l in
+    omega (arith, s .pre .1 .1 .0 (s .args .in1 + l .loop .q), s .pre .1 .1 .0 (s .args .in2 + l .loop .q))
 
 add-wrapping-sub-u32-3 : tie.Need-add-wrapping-sub-u32-3 Inv-loop μ-loop
 add-wrapping-sub-u32-3 c =
-    let l = c .before .before .before .before .before .before .before .loop in
-    let a = c .before .before .before .before .before .before .before .before .before .before in
-    omega (arith, a .pre .1 .1 (a .args .out1 + l .q), a .pre .1 .1 (a .args .out2 + l .q))
-
-wrapping-sub-u32-requires : tie.Need-wrapping-sub-u32-requires Inv-loop μ-loop
-wrapping-sub-u32-requires c κs = search needs
-
-add-work : tie.Need-add-work Inv-loop μ-loop
-add-work c = search needs
-
-mul-work : tie.Need-mul-work Inv-loop μ-loop
-mul-work c = search needs
-
-slice-write-work : tie.Need-slice-write-work Inv-loop μ-loop
-slice-write-work c = search needs
-
-add-wrapping-add-u32-5 : tie.Need-add-wrapping-add-u32-5 Inv-loop μ-loop
-add-wrapping-add-u32-5 c = search needs
-
-mul-wrapping-add-u32-4 : tie.Need-mul-wrapping-add-u32-4 Inv-loop μ-loop
-mul-wrapping-add-u32-4 c = search needs
+    let l = c .before .before .before .before .before .before .before in
+    let s = start l in
+    omega (arith, s .pre .1 .1 .0 (s .args .out1 + l .loop .q), s .pre .1 .1 .0 (s .args .out2 + l .loop .q))
 
 slice-read-wrapping-add-u32-2 : tie.Need-slice-read-wrapping-add-u32-2 Inv-loop μ-loop
-slice-read-wrapping-add-u32-2 c = simp length-set (omega (arith, c .before .before .before .before .before .before .before .before .before .loop .inv .1 .len))
-
-wrapping-add-u32-requires-2 : tie.Need-wrapping-add-u32-requires-2 Inv-loop μ-loop
-wrapping-add-u32-requires-2 c κs = search needs
-
-add-work-2 : tie.Need-add-work-2 Inv-loop μ-loop
-add-work-2 c = search needs
-
-mul-work-2 : tie.Need-mul-work-2 Inv-loop μ-loop
-mul-work-2 c = search needs
+slice-read-wrapping-add-u32-2 c = simp length-set (omega (arith, at-tick (c .before) .loop .inv .1 .len))
 
 slice-write-work-2 : tie.Need-slice-write-work-2 Inv-loop μ-loop
-slice-write-work-2 c = simp length-set (omega (arith, c .before .before .before .before .before .before .before .before .before .before .loop .inv .1 .len))
+slice-write-work-2 c = simp length-set (omega (arith, at-tick (subtracted c) .loop .inv .1 .len))
 
 lower-requires : tie.Need-lower-requires Inv-loop μ-loop
-lower-requires c κs = search needs
-
-add-q : tie.Need-add-q Inv-loop μ-loop
-add-q c = search needs
-
-loop-less : tie.Need-loop-less Inv-loop μ-loop
-loop-less c = search needs
+lower-requires c κs =
+    let l = at-tick (subtracted c) in
+    (rw (summed-here c) (start l .pre .1 .1 .1 (l .loop .q) (omega arith)), rw (l .loop .inv .2) (lowest-signed _ (l .loop .q)))
 
 loop-again : tie.Need-loop-again Inv-loop μ-loop
 loop-again c =
-    let l = c .before .before .before .before .before .before .before .before .before .before .before .loop in
-    let a = c .before .before .before .before .before .before .before .before .before .before .before .before .before .before .args in
-    let w = l .inv .1 in
-    let x = getD (a .table .now) (a .in1 + l .q) 0 + getD (a .table .now) (a .in2 + l .q) 0 in
-    let y = getD (a .table .now) (a .out1 + l .q) 0 + getD (a .table .now) (a .out2 + l .q) 0 in
-    let z = c .before .before .before .wrapping-sub-u32 .result in
-    let fit : z < 2 ^ 32 = omega arith in
-    let new = adjusted-by-code (getD (l .work) (a .change + l .q) 0) x y _ z fit
-    (c .before .before .before .before .before .before .wrapping-add-u32 .ensures) (c .before .before .before .wrapping-sub-u32 .ensures) in
-    let change : z ≡ turned (a .work .now) (a .change) (a .table .now) (a .in1) (a .in2) (a .out1) (a .out2) (l .q) =
-    new ∙ ap (λ (d : ℕ). adjusted d x y) (w .after (a .change + l .q) (omega arith)) in
-    let old : getD (set (l .work) (a .change + l .q) z) (a .base + l .q) 0 ≡ getD (a .work .now) (a .base + l .q) 0 =
-    getD-set-other (l .work) (a .change + l .q) (a .base + l .q) z 0 (omega arith) ∙ w .between (a .base + l .q) (omega arith) (omega arith) in
-    let sum = c .before .wrapping-add-u322 .ensures ∙ ap (λ (d : ℕ). (d + z) % 2 ^ 32) old
-    ∙ ap (λ (d : ℕ). (getD (a .work .now) (a .base + l .q) 0 + d) % 2 ^ 32) change in
-    (omega arith, both-turn w (omega arith) (omega arith) sum change, lowest-turn _ (l .q) (c .lower .ensures) sum (l .inv .2))
-
-same-length : tie.Need-same-length Inv-loop μ-loop
-same-length c = search needs
+    let l = at-tick (subtracted (c .before)) .loop in
+    let sum = summed-here (c .before) in
+    (omega arith, both-turn (l .inv .1) (omega arith) (omega arith) sum (turned-here (subtracted (c .before))), lowest-turn _ (l .q) (c .lower .ensures) sum (l .inv .2))
 
 returns : tie.Need-returns Inv-loop μ-loop
 returns c =
-    let e : c .before .loop .q ≡ c .before .before .before .before .args .n = omega arith in
+    let e : c .before .loop .q ≡ start (c .before) .args .n = omega arith in
     (rw e at (c .before .loop .inv .1), rw e at (c .before .loop .inv .2))
 
 pub turn-spec : {M : Type 1} → statement M
@@ -163,38 +101,38 @@ turn-spec =
     Inv-loop
     μ-loop
     loop-holds
-    add-wrapping-add-u32
-    mul-wrapping-add-u32
-    slice-read-wrapping-add-u32
-    add-wrapping-add-u32-2
-    mul-wrapping-add-u32-2
-    shared-slice-read-wrapping-add-u32
-    add-wrapping-add-u32-3
-    mul-wrapping-add-u32-3
-    shared-slice-read-wrapping-add-u32-2
+    (λ c. search needs)
+    (λ c. search needs)
+    (λ c. search needs)
+    (λ c. search needs)
+    (λ c. search needs)
+    (λ c. search needs)
+    (λ c. search needs)
+    (λ c. search needs)
+    (λ c. search needs)
     add-wrapping-add-u32-4
-    wrapping-add-u32-requires
-    add-wrapping-sub-u32
-    mul-wrapping-sub-u32
-    shared-slice-read-wrapping-sub-u32
-    add-wrapping-sub-u32-2
-    mul-wrapping-sub-u32-2
-    shared-slice-read-wrapping-sub-u32-2
+    (λ c κs. search needs)
+    (λ c. search needs)
+    (λ c. search needs)
+    (λ c. search needs)
+    (λ c. search needs)
+    (λ c. search needs)
+    (λ c. search needs)
     add-wrapping-sub-u32-3
-    wrapping-sub-u32-requires
-    add-work
-    mul-work
-    slice-write-work
-    add-wrapping-add-u32-5
-    mul-wrapping-add-u32-4
+    (λ c κs. search needs)
+    (λ c. search needs)
+    (λ c. search needs)
+    (λ c. search needs)
+    (λ c. search needs)
+    (λ c. search needs)
     slice-read-wrapping-add-u32-2
-    wrapping-add-u32-requires-2
-    add-work-2
-    mul-work-2
+    (λ c κs. search needs)
+    (λ c. search needs)
+    (λ c. search needs)
     slice-write-work-2
     lower-requires
-    add-q
-    loop-less
+    (λ c. search needs)
+    (λ c. search needs)
     loop-again
-    same-length
+    (λ c. search needs)
     returns)

@@ -1,69 +1,42 @@
--- `cycle::verdicts::first_bad` meets its contract. Assumes nothing.
-use Prim.Native.Nat.{_+_, _-_, _≤_}
-use mathlib.Core.Path.{_≡_}
+-- `cycle::verdicts::first_bad` meets its contract: if the highest reading is good, all are. Assumes nothing.
+use Prim.Native.Nat.{ℕ, _≤_, _<_}
+use mathlib.Core.Path.{_≡_, sym, _∙_}
+use mathlib.Core.Bool.{false≢true}
+use mathlib.Core.List.{List}
 use native.Mathlib.Omega.{arith}
-use borrow.Author.Tests.{lt-ltb, le-ltb}
+use native.Mathlib.Decide.{decLt}
 use borrow.Author.Needs.{needs}
-use lib.ListN.{length, drop}
-use Rattle.cycle.specs.Distance.{isReading}
-use Rattle.lists.proofs.First.{first-here, first-later, first-none}
+use borrow.Author.Tests.{lt-ltb}
+use lib.ListN.{length, getD}
 use Rattle.lists.specs.First.{firstBad}
+use Rattle.lists.proofs.First.{first-le, at-first}
+use Rattle.cycle.specs.Distance.{isReading}
 use Rattle.cycle.proofs.verdicts.first_bad.Statement.{statement}
 use Rattle.cycle.proofs.verdicts.first_bad.Tie as tie
 
-abbrev Inv-loop : tie.InvT-loop
-Inv-loop cycle readings i₀ i = (i ≤ length readings) × (firstBad (isReading cycle) readings ≡ i + firstBad (isReading cycle) (drop i readings))
+-- where every reading is below the cycle, none is bad
+none-bad : (c : ℕ) (xs : List ℕ) → ((k : ℕ) → k < length xs → getD xs k 0 < c) → length xs ≡ firstBad (isReading c) xs
+none-bad c xs below = go (decLt (firstBad (isReading c) xs) (length xs))
+  where
+    go : Dec (firstBad (isReading c) xs < length xs) → length xs ≡ firstBad (isReading c) xs
+    go (yes h) = absurd (false≢true (sym (at-first (isReading c) 0 xs h) ∙ lt-ltb _ c (below _ h)))
+    go (no h) = omega (arith, first-le (isReading c) xs)
 
-abbrev μ-loop : tie.MeasureT-loop
-μ-loop cycle readings i₀ i = length readings - i
-
-loop-holds : tie.Need-loop-holds Inv-loop μ-loop
-loop-holds c = search needs
-
-mul-if1 : tie.Need-mul-if1 Inv-loop μ-loop
-mul-if1 c = search needs
-
-shared-slice-read-if1 : tie.Need-shared-slice-read-if1 Inv-loop μ-loop
-shared-slice-read-if1 c = search needs
-
-cast-if1 : tie.Need-cast-if1 Inv-loop μ-loop
-cast-if1 c = omega (arith, c .shared-slice-known .given (c .before .before .loop .i))
-
-returns : tie.Need-returns Inv-loop μ-loop
+returns : tie.Need-returns
 returns c =
-    let a = c .before .before .before .before .args in
-    let i = c .before .before .before .loop .i in
-    omega (arith, first-here (isReading (a .cycle)) 0 (a .readings .now) i (omega arith) (le-ltb _ _ (c .if1 .taken)))
+    let h = c .before in
+    let a = h .before .before .args in
+    none-bad (a .cycle) (a .readings .now) (λ k l. omega (arith, h .highest .ensures k l, c .if1 .taken))
 
-add-i : tie.Need-add-i Inv-loop μ-loop
-add-i c = search needs
-
-loop-less : tie.Need-loop-less Inv-loop μ-loop
-loop-less c = search needs
-
-loop-again : tie.Need-loop-again Inv-loop μ-loop
-loop-again c =
-    let a = c .before .before .before .before .args in
-    let i = c .before .before .before .loop .i in
-    omega (arith, first-later (isReading (a .cycle)) 0 (a .readings .now) i (omega arith) (lt-ltb _ _ (c .if1 .left)))
-
-returns-2 : tie.Need-returns-2 Inv-loop μ-loop
-returns-2 c =
-    let a = c .before .before .args in
-    omega (arith, first-none (isReading (a .cycle)) 0 (a .readings .now) (c .before .loop .i) (omega arith))
+returns-2 : tie.Need-returns-2
+returns-2 c = c .search .ensures
 
 pub first-bad-spec : {M : Type 1} → statement M
 first-bad-spec =
     tie.close
     (tie.spec
-    Inv-loop
-    μ-loop
-    loop-holds
-    mul-if1
-    shared-slice-read-if1
-    cast-if1
+    (λ c κs. search needs)
+    (λ c. search needs)
     returns
-    add-i
-    loop-less
-    loop-again
+    (λ c κs. search needs)
     returns-2)

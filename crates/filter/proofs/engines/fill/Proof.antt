@@ -1,72 +1,58 @@
+-- `filter::engines::fill` meets its contract. Assumes nothing.
 use Prim.Native.Nat.{ℕ, _+_, _*_}
-use mathlib.Core.Path.{subst, _≡_}
+use mathlib.Core.Path.{_≡_}
 use native.Mathlib.Nat.{mul-comm}
 use native.Mathlib.Omega.{arith}
 use borrow.Author.Needs.{needs}
-use Rattle.memory.specs.Memory.{Outside}
+use Rattle.shape.specs.declared.Shape.{Shape}
+use Rattle.level_sums.specs.Sums as level
+use Rattle.filter.specs.Calls.{need}
+use Rattle.filter.specs.declared.Engine.the-variants.{Level}
 use Rattle.filter.proofs.engines.fill.Statement.{statement}
 use Rattle.filter.proofs.engines.fill.Tie as tie
 
--- `filter::engines::fill` meets its contract. Assumes nothing.
-
-enum-told : tie.Need-enum-told
-enum-told c = search needs
+-- the level engine's need, written two ways
+level-need : (s : Shape) → level.need s ≡ need Level s
+level-need s = omega (arith, mul-comm (s .columns) (s .cycle))
 
 fill-requires : tie.Need-fill-requires
 fill-requires c κs =
     let s = c .before .before .before .before .before .before .before in
-    let a = s .args in
-    let e = c .before .before .enum-told .given .1 in
-    let room = rw e at (s .pre .0 .1) in
-    (record { ready = rw e at (s .pre .0 .0); room = omega (arith, room, mul-comm (a .shape .columns) (a .shape .cycle)) }, s .pre .1)
-
-enum-told-2 : tie.Need-enum-told-2
-enum-told-2 c = search needs
+    let k = rw (c .before .before .enum-told .given .1) at (s .pre) in
+    record {
+      given = record { ready = k .given .ready; room = omega (arith, k .given .room, level-need (s .args .shape)) };
+      order = k .order;
+      within = k .within;
+      output-room = k .output-room;
+    }
 
 fill-requires-2 : tie.Need-fill-requires-2
-fill-requires-2 c κs =
-    let s = c .before .before .before .before .before .before .before in
-    let e = c .before .before .enum-told2 .given .1 in
-    (record { ready = rw e at (s .pre .0 .0); room = rw e at (s .pre .0 .1) }, s .pre .1)
-
-same-length : tie.Need-same-length
-same-length c = search needs
-
-same-length-2 : tie.Need-same-length-2
-same-length-2 c = search needs
+fill-requires-2 c κs = rw (c .before .before .enum-told2 .given .1) at (c .before .before .before .before .before .before .before .pre)
 
 returns : tie.Need-returns
 returns c =
-    let a = c .before .before .before .before .before .before .before .before .before .before .before .before .args in
-    let e = c .before .before .before .before .before .before .before .enum-told .given .1 in
-    let x = c .before .before .before .before .fill .ensures in
-    let d : a .shape .columns * a .shape .cycle + a .shape .cycle ≡ a .shape .cycle * (a .shape .columns + 1) =
-    omega (arith, mul-comm (a .shape .columns) (a .shape .cycle)) in
-    (x .0, rw e (subst (λ (n : ℕ). Outside (a .work .now) (c .before .before .before .before .fill .last .1 .1 .1 .1 .1 .0) 0 n) d (x .1)))
-
-same-length-3 : tie.Need-same-length-3
-same-length-3 c = search needs
-
-same-length-4 : tie.Need-same-length-4
-same-length-4 c = search needs
+    let f = c .before .before .before .before in
+    let e = f .before .before .before .enum-told .given .1 in
+    let s = f .before .before .before .before .before .before .before .before in
+    let x = f .fill .ensures in
+    rw e (record { phases = x .phases; outside = rw (level-need (s .args .shape)) at (x .outside) })
 
 returns-2 : tie.Need-returns-2
 returns-2 c =
-    let e = c .before .before .before .before .before .before .before .enum-told2 .given .1 in
-    let x = c .before .before .before .before .fill2 .ensures in
-    (x .0, rw e (x .1))
+    let f = c .before .before .before .before in
+    rw (f .before .before .before .enum-told2 .given .1) (f .fill2 .ensures)
 
 pub fill-spec : {M : Type 1} → statement M
 fill-spec =
     tie.close
     (tie.spec
-    enum-told
+    (λ c. search needs)
     fill-requires
-    enum-told-2
+    (λ c. search needs)
     fill-requires-2
-    same-length
-    same-length-2
+    (λ c. search needs)
+    (λ c. search needs)
     returns
-    same-length-3
-    same-length-4
+    (λ c. search needs)
+    (λ c. search needs)
     returns-2)

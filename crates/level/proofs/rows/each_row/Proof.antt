@@ -5,91 +5,106 @@ use mathlib.Core.Path.{_≡_, ap, sym, _∙_}
 use native.Mathlib.Nat.{mul-le-mul-right}
 use native.Mathlib.Omega.{arith}
 use borrow.Author.Needs.{needs}
+use borrow.Rule.Slice.PartMut.{putMid}
 use lib.ListN.{length}
+use Rattle.lists.specs.Tabulate.{written}
+use Rattle.lists.proofs.Parts.{part-end}
+use Rattle.lists.proofs.Written.{Run, run-start, run-part, written-join, part-length}
 use Rattle.refusal.specs.Limits.{mostRows, mostColumns}
-use Rattle.level.proofs.RowLaws.{next-place, given-kept}
-use Rattle.level_sums.proofs.Spots.{accepted}
-use Rattle.level_sums.specs.Sums.{RowSums}
+use Rattle.shape.proofs.Accepted.{area-fits}
 use Rattle.memory.specs.Memory.{Outside}
 use Rattle.memory.proofs.Memory.{outside-none, outside-more}
 use Rattle.window.specs.Phase.{phaseAt}
-use Rattle.shape.proofs.Accepted.{area-fits}
-use Rattle.lists.proofs.Written.{Run, run-start, run-part, written-join, part-length}
-use Rattle.lists.specs.Tabulate.{written}
-use Rattle.lists.proofs.Parts.{part-end}
+use Rattle.lines.specs.Lines.{IsLine}
+use Rattle.level_sums.specs.Sums.{RowSums, need}
+use Rattle.level_sums.proofs.Spots.{accepted, given-kept}
+use Rattle.level.proofs.RowLaws.{next-place}
 use Rattle.level.proofs.rows.each_row.Statement.{statement}
 use Rattle.level.proofs.rows.each_row.Tie as tie
 
 abbrev Inv-loop : tie.InvT-loop
-Inv-loop shape first end image output₀ work₀ table columns start stop i₀ output work i = (first ≤ i) × (i < end) × RowSums shape image i work 0
-    (shape .columns) × Outside work₀ work 0 (shape .columns * shape .cycle + shape .cycle) × Run (phaseAt shape image)
-    ((first + 1) * shape .columns) output₀ output ((i + 1) * shape .columns)
+Inv-loop shape first end image output₀ work₀ table centres₀ columns start stop i₀ output work centres i = (first ≤ i) × (i < end) ×
+    RowSums shape image i work 0 (shape .columns) × Outside work₀ work 0 (need shape) ×
+    Run (phaseAt shape image) ((first + 1) * shape .columns) output₀ output ((i + 1) * shape .columns) × IsLine centres
 
 abbrev μ-loop : tie.MeasureT-loop
-μ-loop shape first end image output₀ work₀ table columns start stop i₀ output work i = end - i
+μ-loop shape first end image output₀ work₀ table centres₀ columns start stop i₀ output work centres i = end - i
 
--- the first row, from the head of the loop; the start of the function, from the first row
+-- the first row, from before the loop and from its head; where the call began, from the first row
+abbrev opening : tie.After-slice-known6 Inv-loop μ-loop → tie.After-first-row Inv-loop μ-loop
+opening c = c .before .before .before .before .before .before
+
 abbrev first-row : tie.At-loop Inv-loop μ-loop → tie.After-first-row Inv-loop μ-loop
-first-row c = c .before .before .before .before .before
+first-row c = opening (c .before)
 
-abbrev start : tie.After-first-row Inv-loop μ-loop → tie.Start Inv-loop μ-loop
-start c = c .before .before .before .before .before .before .before .before
+abbrev start : tie.After-struct-known Inv-loop μ-loop → tie.Start Inv-loop μ-loop
+start c = c .before .before .before .before .before .before
+
+abbrev begin : tie.After-first-row Inv-loop μ-loop → tie.Start Inv-loop μ-loop
+begin c = start (c .before .before .before .before)
+
+-- a turn of the loop, from its end
+abbrev next-row : tie.After-slice-known9 Inv-loop μ-loop → tie.After-next-row Inv-loop μ-loop
+next-row c = c .before .before .before .before .before .before
+
+abbrev turn : tie.After-next-row Inv-loop μ-loop → tie.In-loop Inv-loop μ-loop
+turn c = c .before .before .before .before
 
 -- a row of the image lies within the output
 inside : (s : tie.Start Inv-loop μ-loop) (i : ℕ) → i < s .args .shape .rows → let n = s .args .shape .columns in
     (i * n + n ≤ length (s .args .output .now)) × (i * n + n ≤ mostRows * mostColumns)
 inside s i h =
     let a = s .args in
+    let k = s .pre .0 .0 in
     let room = part-end i (a .shape .rows) (a .shape .columns) h in
-    (omega (arith, room, s .pre .1 .2), omega (arith, room, area-fits (accepted (s .pre .0 .0))))
+    (omega (arith, room, k .output-room), omega (arith, room, area-fits (accepted (k .given))))
 
 -- the first row's, and that of a turn
 first-inside : (s : tie.Start Inv-loop μ-loop) → let n = s .args .shape .columns in
     (s .args .first * n + n ≤ length (s .args .output .now)) × (s .args .first * n + n ≤ mostRows * mostColumns)
-first-inside s = inside s (s .args .first) (omega (arith, s .pre .1))
+first-inside s = inside s (s .args .first) (omega (arith, s .pre .0 .1, s .pre .0 .0 .within))
 
-next-inside : (c : tie.In-loop Inv-loop μ-loop) → let s = start (first-row (c .before)) in let n = s .args .shape .columns in let i = c .before .loop .i in
+next-inside : (c : tie.In-loop Inv-loop μ-loop) → let s = begin (first-row (c .before)) in let n = s .args .shape .columns in let i = c .before .loop .i in
     ((i + 1) * n + n ≤ length (s .args .output .now)) × ((i + 1) * n + n ≤ mostRows * mostColumns)
-next-inside c = let s = start (first-row (c .before)) in inside s (c .before .loop .i + 1) (omega (arith, c .loop-test .taken, s .pre .1))
+next-inside c =
+    let s = begin (first-row (c .before)) in
+    inside s (c .before .loop .i + 1) (omega (arith, c .loop-test .taken, s .pre .0 .0 .within))
 
-cast-columns : tie.Need-cast-columns Inv-loop μ-loop
-cast-columns c = search needs
+-- the output with the first row
+opened : (c : tie.After-first-row Inv-loop μ-loop) → let a = begin c .args in let n = a .shape .columns in
+    Run (phaseAt (a .shape) (a .image .now)) (a .first * n) (a .output .now)
+    (putMid (a .first * n) (a .first * n + n - a .first * n) (a .output .now) (c .first-row .last .1 .1 .1 .1 .1 .1 .0)) (a .first * n + n)
+opened c =
+    let s = begin c in
+    run-part run-start (s .args .shape .columns) _ (omega (arith, first-inside s)) (c .first-row .ensures .phases)
 
 mul-start : tie.Need-mul-start Inv-loop μ-loop
-mul-start c = omega (arith, first-inside (c .before .before .before .before .before))
+mul-start c = omega (arith, first-inside (start c))
 
 add-stop : tie.Need-add-stop Inv-loop μ-loop
-add-stop c = omega (arith, first-inside (c .before .before .before .before .before))
+add-stop c = omega (arith, first-inside (start c))
 
 mul-first-row : tie.Need-mul-first-row Inv-loop μ-loop
-mul-first-row c = omega (arith, first-inside (c .before .before .before .before .before .before))
-
-sub-first-row : tie.Need-sub-first-row Inv-loop μ-loop
-sub-first-row c = search needs
-
-part-first-row-start : tie.Need-part-first-row-start Inv-loop μ-loop
-part-first-row-start c = search needs
+mul-first-row c = omega (arith, first-inside (start (c .before .before)))
 
 part-first-row-end : tie.Need-part-first-row-end Inv-loop μ-loop
-part-first-row-end c = omega (arith, first-inside (c .before .before .before .before .before .before))
+part-first-row-end c = omega (arith, first-inside (start (c .before .before)))
 
 first-row-requires : tie.Need-first-row-requires Inv-loop μ-loop
 first-row-requires c κs =
-    let s = c .before .before .before .before .before .before .before in
+    let s = start (c .before .before .before) in
     let a = s .args in
     let n = a .shape .columns in
-    (s .pre .0, (omega arith, part-length (a .first * n) n (a .output .now) (omega (arith, first-inside s))))
+    let k = s .pre .0 .0 in (
+      (k .given, s .pre .1 .0, s .pre .1 .1),
+      (omega (arith, s .pre .0 .1, k .within), part-length (a .first * n) n (a .output .now) (omega (arith, first-inside s))),
+    )
 
 loop-holds : tie.Need-loop-holds Inv-loop μ-loop
 loop-holds c =
-    let f = c .before .before .before .before in
-    (omega arith, omega (arith, start f .pre .1), f .first-row .ensures .1 .0, outside-none, run-start)
-
-add-loop : tie.Need-add-loop Inv-loop μ-loop
-add-loop c = search needs
-
-add-a : tie.Need-add-a Inv-loop μ-loop
-add-a c = search needs
+    let f = opening c in
+    let s = begin f in
+    (omega arith, s .pre .0 .1, f .first-row .ensures .sums, outside-none, run-start, search needs)
 
 mul-a : tie.Need-mul-a Inv-loop μ-loop
 mul-a c = omega (arith, next-inside c)
@@ -98,101 +113,75 @@ add-b : tie.Need-add-b Inv-loop μ-loop
 add-b c = omega (arith, next-inside c)
 
 mul-next-row : tie.Need-mul-next-row Inv-loop μ-loop
-mul-next-row c = omega (arith, next-inside (c .before))
-
-sub-next-row : tie.Need-sub-next-row Inv-loop μ-loop
-sub-next-row c = search needs
-
-part-next-row-start : tie.Need-part-next-row-start Inv-loop μ-loop
-part-next-row-start c = search needs
+mul-next-row c = omega (arith, next-inside (c .before .before))
 
 part-next-row-end : tie.Need-part-next-row-end Inv-loop μ-loop
 part-next-row-end c =
-    let k = c .before in
-    let l = k .before .loop in
-    let r = first-row (k .before) in
-    let s = start r in
-    let a = s .args in
-    let n = a .shape .columns in
-    let f = phaseAt (a .shape) (a .image .now) in
-    let o = run-part (run-start {f = f} {a = a .first * n} {l = a .output .now}) n _ (omega (arith, first-inside s)) (r .first-row .ensures .0) in
-    omega (arith, next-inside k, o .len, l .inv .4 .len)
+    let k = c .before .before in
+    omega (arith, next-inside k, opened (first-row (k .before)) .len, k .before .loop .inv .4 .len)
 
 next-row-requires : tie.Need-next-row-requires Inv-loop μ-loop
 next-row-requires c κs =
-    let k = c .before .before in
+    let k = c .before .before .before in
     let l = k .before .loop in
     let r = first-row (k .before) in
-    let s = start r in
-    let a = s .args in
-    let n = a .shape .columns in
-    let f = phaseAt (a .shape) (a .image .now) in
-    let o = run-part (run-start {f = f} {a = a .first * n} {l = a .output .now}) n _ (omega (arith, first-inside s)) (r .first-row .ensures .0) in
-    let room = next-inside k in (
-      (given-kept (s .pre .0 .0) (l .inv .3 .len ∙ r .first-row .ensures .1 .1 .len), s .pre .0 .1),
-      (omega arith, part-length ((l .i + 1) * n) n (l .output) (omega (arith, room, o .len, l .inv .4 .len)), l .inv .2),
+    let s = begin r in
+    let n = s .args .shape .columns in (
+      (given-kept (s .pre .0 .0 .given) (l .inv .3 .len ∙ r .first-row .ensures .outside .len), s .pre .1 .0, l .inv .5),
+      (
+        omega (arith, s .pre .0 .0 .within),
+        part-length ((l .i + 1) * n) n (l .output) (omega (arith, next-inside k, opened r .len, l .inv .4 .len)),
+        l .inv .2,
+      ),
     )
 
 add-i : tie.Need-add-i Inv-loop μ-loop
 add-i c =
-    let k = c .before .before .before .before .before .before .before in
-    let s = start (first-row (k .before)) in
-    omega (arith, accepted (s .pre .0 .0) .rows-fit, s .pre .1 .1, k .loop-test .taken)
-
-loop-less : tie.Need-loop-less Inv-loop μ-loop
-loop-less c = search needs
+    let k = turn (next-row c) in
+    let s = begin (first-row (k .before)) in
+    omega (arith, accepted (s .pre .0 .0 .given) .rows-fit, s .pre .0 .0 .within, k .loop-test .taken)
 
 loop-again : tie.Need-loop-again Inv-loop μ-loop
 loop-again c =
-    let y = c .before .before .before .before in
-    let k = y .before .before .before in
+    let y = next-row c in
+    let k = turn y in
     let l = k .before .loop in
     let r = first-row (k .before) in
-    let s = start r in
-    let a = s .args in
-    let n = a .shape .columns in
-    let f = phaseAt (a .shape) (a .image .now) in
-    let o = run-part (run-start {f = f} {a = a .first * n} {l = a .output .now}) n _ (omega (arith, first-inside s)) (r .first-row .ensures .0) in
-    let room = next-inside k in (
+    let n = begin r .args .shape .columns in (
       omega arith,
       omega arith,
-      y .next-row .ensures .1 .0,
-      outside-more (l .inv .3) (y .next-row .ensures .1 .1),
-      rw (next-place (l .i + 1) n) (run-part (l .inv .4) n _ (omega (arith, room, o .len)) (y .next-row .ensures .0)),
+      y .next-row .ensures .sums,
+      outside-more (l .inv .3) (y .next-row .ensures .outside),
+      rw (next-place (l .i + 1) n) (run-part (l .inv .4) n _ (omega (arith, next-inside k, opened r .len)) (y .next-row .ensures .phases)),
+      search needs,
     )
 
 same-length : tie.Need-same-length Inv-loop μ-loop
-same-length c =
-    let l = c .before .loop in
-    let r = first-row (c .before) in
-    let s = start r in
-    let a = s .args in
-    let n = a .shape .columns in
-    let f = phaseAt (a .shape) (a .image .now) in
-    let o = run-part (run-start {f = f} {a = a .first * n} {l = a .output .now}) n _ (omega (arith, first-inside s)) (r .first-row .ensures .0) in
-    l .inv .4 .len ∙ o .len
+same-length c = c .before .loop .inv .4 .len ∙ opened (first-row (c .before)) .len
 
 same-length-2 : tie.Need-same-length-2 Inv-loop μ-loop
-same-length-2 c =
-    c .before .loop .inv .3 .len ∙ first-row (c .before) .first-row .ensures .1 .1 .len
+same-length-2 c = c .before .loop .inv .3 .len ∙ first-row (c .before) .first-row .ensures .outside .len
+
+same-length-3 : tie.Need-same-length-3 Inv-loop μ-loop
+same-length-3 c = c .before .loop .inv .5 ∙ sym (begin (first-row (c .before)) .pre .1 .1)
 
 returns : tie.Need-returns Inv-loop μ-loop
 returns c =
     let l = c .before .loop in
     let r = first-row (c .before) in
-    let s = start r in
+    let s = begin r in
     let a = s .args in
     let n = a .shape .columns in
     let f = phaseAt (a .shape) (a .image .now) in
-    let o = run-part (run-start {f = f} {a = a .first * n} {l = a .output .now}) n _ (omega (arith, first-inside s)) (r .first-row .ensures .0) in
     let e : l .i + 1 ≡ a .end = omega arith in
     let order : (a .first + 1) * n ≤ a .end * n = mul-le-mul-right n (omega arith) in
-    let last : a .end * n ≤ length (a .output .now) = omega (arith, mul-le-mul-right {m = a .end} {n = a .shape .rows} n (omega arith)) in (
-      rw e at (l .inv .4 .is) ∙ ap (written f ((a .first + 1) * n) (a .end * n))
-          (o .is ∙ ap (λ (k : ℕ). written f (a .first * n) k (a .output .now)) (sym (next-place (a .first) n)))
-          ∙ written-join 0 f (a .first * n) ((a .first + 1) * n) (a .end * n) (a .output .now) (omega arith) order last,
-      outside-more (r .first-row .ensures .1 .1) (l .inv .3),
-    )
+    let last : a .end * n ≤ length (a .output .now) = omega (arith, s .pre .0 .0 .output-room, mul-le-mul-right n (s .pre .0 .0 .within)) in
+    record {
+      phases = rw e at (l .inv .4 .is) ∙ ap (written f ((a .first + 1) * n) (a .end * n))
+          (opened r .is ∙ ap (λ (k : ℕ). written f (a .first * n) k (a .output .now)) (sym (next-place (a .first) n)))
+          ∙ written-join 0 f (a .first * n) ((a .first + 1) * n) (a .end * n) (a .output .now) (omega arith) order last;
+      outside = outside-more (r .first-row .ensures .outside) (l .inv .3);
+    }
 
 pub each-row-spec : {M : Type 1} → statement M
 each-row-spec =
@@ -200,27 +189,28 @@ each-row-spec =
     (tie.spec
     Inv-loop
     μ-loop
-    cast-columns
+    (λ c. search needs)
     mul-start
     add-stop
     mul-first-row
-    sub-first-row
-    part-first-row-start
+    (λ c. search needs)
+    (λ c. search needs)
     part-first-row-end
     first-row-requires
     loop-holds
-    add-loop
-    add-a
+    (λ c. search needs)
+    (λ c. search needs)
     mul-a
     add-b
     mul-next-row
-    sub-next-row
-    part-next-row-start
+    (λ c. search needs)
+    (λ c. search needs)
     part-next-row-end
     next-row-requires
     add-i
-    loop-less
+    (λ c. search needs)
     loop-again
     same-length
     same-length-2
+    same-length-3
     returns)

@@ -1,4 +1,5 @@
--- `level_sums::columns::add_mask_row` meets its contract. Assumes nothing.
+-- `level_sums::columns::add_mask_row` meets its contract: after l columns the sums are those of k mask rows and of l readings of the
+-- next. Assumes nothing.
 use Prim.Native.Nat.{_+_, _-_, _≤_}
 use mathlib.Core.Path.{_≡_, _∙_, refl}
 use native.Mathlib.Omega.{arith}
@@ -21,47 +22,37 @@ Inv-loop shape image work₀ table i k cycle columns row l₀ work l = (l ≤ co
 abbrev μ-loop : tie.MeasureT-loop
 μ-loop shape image work₀ table i k cycle columns row l₀ work l = columns - l
 
+-- where the call began, from where the row is known
+abbrev start : tie.After-row-start Inv-loop μ-loop → tie.Start Inv-loop μ-loop
+start c = c .before .before .before .before .before .before
+
 -- the reading that is added
-here : (c : tie.After-column-at Inv-loop μ-loop) → let a = c .before .before .before .before .before .before .before .before .before .args in
-    Spot (a .shape) (a .image .now) (a .i + a .k) (c .before .before .loop .l) (c .before .before .before .row-start .result + c .column-at .result)
+here : (c : tie.After-column-at Inv-loop μ-loop) → let r = c .before .before .before in let a = start r .args in
+    Spot (a .shape) (a .image .now) (a .i + a .k) (c .before .before .loop .l) (r .row-start .result + c .column-at .result)
 here c =
-    let s = c .before .before .before .before .before .before .before .before .before in
+    let r = c .before .before .before in
+    let s = start r in
     let k = accepted (s .pre .0 .0) in
-    spot (s .pre .0 .0) (s .args .i + s .args .k) (c .before .before .loop .l) (omega (arith, k)) (omega (arith, k))
-    (c .before .before .before .row-start .ensures) (c .column-at .ensures)
+    spot (s .pre .0 .0) (s .args .i + s .args .k) (c .before .before .loop .l) (omega (arith, k)) (omega (arith, k)) (r .row-start .ensures) (c .column-at .ensures)
 
 -- its part of the table
-source : (c : tie.After-part-of Inv-loop μ-loop) → let a = c .before .before .before .before .before .before .before .before .before .before .args in
-    Part (a .shape .cycle) (a .table .now) (padded 0 (a .shape) (a .image .now) (a .i + a .k) (c .before .before .before .loop .l)) (c .part-of .result)
-source c = part (accepted (c .before .before .before .before .before .before .before .before .before .before .pre .0 .0) .cycle-fits)
-    (c .before .before .before .before .before .before .before .before .before .before .pre .0 .1) (here (c .before)) (c .part-of .ensures)
-
-cast-cycle : tie.Need-cast-cycle Inv-loop μ-loop
-cast-cycle c = search needs
-
-cast-columns : tie.Need-cast-columns Inv-loop μ-loop
-cast-columns c = search needs
-
-add-row-start : tie.Need-add-row-start Inv-loop μ-loop
-add-row-start c = search needs
+source : (c : tie.After-part-of Inv-loop μ-loop) → let l = c .before .before .before in let a = start (l .before) .args in
+    Part (a .shape .cycle) (a .table .now) (padded 0 (a .shape) (a .image .now) (a .i + a .k) (l .loop .l)) (c .part-of .result)
+source c =
+    let s = start (c .before .before .before .before) in
+    part (accepted (s .pre .0 .0) .cycle-fits) (s .pre .0 .1) (here (c .before)) (c .part-of .ensures)
 
 row-start-requires : tie.Need-row-start-requires Inv-loop μ-loop
-row-start-requires c κs = (
-  c .before .before .before .before .before .pre .0 .0 .ready .shape,
-  omega (arith, accepted (c .before .before .before .before .before .pre .0 .0)),
-)
+row-start-requires c κs = let g = c .before .before .before .before .before .pre .0 .0 in (g .ready .shape, omega (arith, accepted g))
 
 loop-holds : tie.Need-loop-holds Inv-loop μ-loop
 loop-holds c =
-    let s = c .before .before .before .before .before .before in
+    let s = start c in
     let a = s .args in
     (omega arith, changed-none _ 0 (a .shape .cycle) _ (λ q h. s .pre .1 .1 q h ∙ part-none (a .shape) (a .image .now) (a .i) (a .k) q))
 
 column-at-requires : tie.Need-column-at-requires Inv-loop μ-loop
-column-at-requires c κs = (
-  c .before .before .before .before .before .before .before .before .pre .0 .0 .ready .shape,
-  omega (arith, accepted (c .before .before .before .before .before .before .before .before .pre .0 .0)),
-)
+column-at-requires c κs = let g = start (c .before .before) .pre .0 .0 in (g .ready .shape, omega (arith, accepted g))
 
 add-part-of : tie.Need-add-part-of Inv-loop μ-loop
 add-part-of c = omega (arith, here c)
@@ -71,32 +62,31 @@ part-of-requires c κs = let h = here c in (h .inside, h .tick)
 
 add-requires : tie.Need-add-requires Inv-loop μ-loop
 add-requires c κs =
-    let s = c .before .before .before .before .before .before .before .before .before .before .before in
-    (omega (arith, s .pre .0 .0 .room, c .before .before .before .before .loop .inv .1 .len), source (c .before) .room)
+    let l = c .before .before .before .before in
+    let s = start (l .before) in
+    (omega (arith, s .pre .0 .0 .room, l .loop .inv .1 .len), source (c .before) .room)
 
-add-l : tie.Need-add-l Inv-loop μ-loop
-add-l c = search needs
-
-loop-less : tie.Need-loop-less Inv-loop μ-loop
-loop-less c = search needs
+-- the part of the table, from the end of a turn
+abbrev part-of : tie.After-slice-known2 Inv-loop μ-loop → tie.After-part-of Inv-loop μ-loop
+part-of c = c .before .before .before .before
 
 loop-again : tie.Need-loop-again Inv-loop μ-loop
 loop-again c =
-    let s = c .before .before .before .before .before .before .before .before .before .before .before .before .before .before in
-    let a = s .args in
-    let l = c .before .before .before .before .before .before .before .loop in (
+    let l = part-of c .before .before .before in
+    let a = start (l .before) .args in
+    let k = l .loop .l in
+    let sum = partSum (a .shape) (a .image .now) (a .i) (a .k) in (
       omega arith,
-      run-added (partSum (a .shape) (a .image .now) (a .i) (a .k) (l .l)) (λ q. 0) (partSum (a .shape) (a .image .now) (a .i) (a .k) (l .l + 1)) (λ q. 0)
-          (source (c .before .before .before .before)) (l .inv .1) (c .before .before .add .ensures)
-          (λ q h. part-more (a .shape) (a .image .now) (a .i) (a .k) (l .l) q) (λ q h. refl),
+      run-added (sum k) (λ q. 0) (sum (k + 1)) (λ q. 0) (source (part-of c)) (l .loop .inv .1) (c .before .before .add .ensures)
+          (λ q h. part-more (a .shape) (a .image .now) (a .i) (a .k) k q) (λ q h. refl),
     )
 
 same-length : tie.Need-same-length Inv-loop μ-loop
-same-length c = search (needs, c .before .loop .inv .1 .len)
+same-length c = c .before .loop .inv .1 .len
 
 returns : tie.Need-returns Inv-loop μ-loop
 returns c =
-    let a = c .before .before .before .before .before .before .before .before .args in
+    let a = start (c .before .before) .args in
     let e : c .before .loop .l ≡ a .shape .«mask_columns» = omega arith in
     changed-is (blockSum (a .shape) (a .image .now) (a .i) (a .k + 1)) (rw e at (c .before .loop .inv .1))
     (λ q h. part-all (a .shape) (a .image .now) (a .i) (a .k) q)
@@ -107,17 +97,17 @@ add-mask-row-spec =
     (tie.spec
     Inv-loop
     μ-loop
-    cast-cycle
-    cast-columns
-    add-row-start
+    (λ c. search needs)
+    (λ c. search needs)
+    (λ c. search needs)
     row-start-requires
     loop-holds
     column-at-requires
     add-part-of
     part-of-requires
     add-requires
-    add-l
-    loop-less
+    (λ c. search needs)
+    (λ c. search needs)
     loop-again
     same-length
     returns)

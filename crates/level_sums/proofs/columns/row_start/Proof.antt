@@ -11,17 +11,8 @@ use Rattle.refusal.specs.Limits.{levelCycle, mostRows, mostColumns}
 use Rattle.level_sums.proofs.columns.row_start.Statement.{statement}
 use Rattle.level_sums.proofs.columns.row_start.Tie as tie
 
-cast-mirrored : tie.Need-cast-mirrored
-cast-mirrored c = search needs
-
-cast-mirrored-2 : tie.Need-cast-mirrored-2
-cast-mirrored-2 c = search needs
-
 mirrored-requires : tie.Need-mirrored-requires
 mirrored-requires c κs = omega (arith, shape-clear levelCycle (c .before .before .args .shape) (c .before .before .pre .0))
-
-cast-result : tie.Need-cast-result
-cast-result c = search needs
 
 mul-result : tie.Need-mul-result
 mul-result c =
@@ -45,4 +36,10 @@ returns c = ap (λ (x : ℕ). x * c .before .before .before .before .args .shape
 pub row-start-spec : {M : Type 1} → statement M
 row-start-spec =
     tie.close
-    (tie.spec cast-mirrored cast-mirrored-2 mirrored-requires cast-result mul-result returns)
+    (tie.spec
+    (λ c. search needs)
+    (λ c. search needs)
+    mirrored-requires
+    (λ c. search needs)
+    mul-result
+    returns)

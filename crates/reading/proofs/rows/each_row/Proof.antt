@@ -1,247 +1,161 @@
--- `reading::rows::each_row` meets its contract. Assumes nothing.
+-- `reading::rows::each_row` meets its contract: before each turn the rows up to row i stand in the output, and of the row before it the sums
+-- are kept. Assumes nothing.
 use Prim.Native.Nat.{ℕ, _+_, _-_, _*_, _≤_, _<_}
 use mathlib.Core.Path.{_≡_, ap, sym, _∙_}
-use native.Mathlib.Nat.{mul-le-mul-right}
 use native.Mathlib.Omega.{arith}
 use borrow.Author.Needs.{needs}
-use borrow.Rule.Slice.PartMut.{putMid}
 use lib.ListN.{length}
-use Rattle.lists.specs.Tabulate.{written}
-use Rattle.lists.proofs.Written.{Run, run-start, run-part, written-join, part-length}
+use Rattle.lists.proofs.Parts.{part-end}
+use Rattle.lists.proofs.Written.{Run, run-start, run-part, part-length}
+use Rattle.refusal.specs.Limits.{longestCycle, mostRows, mostColumns}
+use Rattle.shape.proofs.Accepted.{Accepted, area-fits}
 use Rattle.memory.specs.Memory.{Outside}
 use Rattle.memory.proofs.Memory.{outside-none, outside-more}
 use Rattle.window.specs.Phase.{phaseAt}
-use Rattle.planes.specs.Planes.{Blank}
-use Rattle.weighing.specs.Sums.{Lined, RowSums, need}
-use Rattle.weighing.proofs.SumLaws.{accepted, row-room, image-fits, given-kept}
+use Rattle.reading_planes.specs.Sums.{need}
+use Rattle.reading_planes.proofs.Sums.{sizes, given-kept}
+use Rattle.reading_turns.specs.Scratch.{Scratch}
+use Rattle.reading.specs.Rows.{Lined, Kept}
+use Rattle.reading.proofs.Kept.{scratch-kept, lined-kept, kept-none, kept-next}
 use Rattle.reading.proofs.rows.each_row.Statement.{statement}
 use Rattle.reading.proofs.rows.each_row.Tie as tie
 
 abbrev Inv-loop : tie.InvT-loop
-Inv-loop shape first end image output₀ work₀ own₀ come₀ go₀ z₀ up₀ down₀ best₀ kept₀ columns a b i₀ output work own come go z up down best kept i =
-    (first ≤ i) × (i < end) × RowSums shape image i work i (i + shape .«mask_rows») × Outside work₀ work 0 (need shape)
-    × Run (phaseAt shape image) ((first + 1) * shape .columns) output₀ output ((i + 1) * shape .columns)
-    × Blank shape own × Blank shape come × Blank shape go × Lined z up down best kept
+Inv-loop shape first end image output₀ work₀ own₀ entering₀ leaving₀ other₀ centre₀ change₀ step₀ least₀ nearest₀ columns i₀ kept₀ output work own entering leaving other centre change step least nearest i kept =
+    (first ≤ i) × (i ≤ end) × Kept shape image i kept work × Outside work₀ work 0 (need shape)
+    × Run (phaseAt shape image) (first * shape .columns) output₀ output (i * shape .columns) × Lined own entering leaving other centre × Scratch change step least nearest
 
 abbrev μ-loop : tie.MeasureT-loop
-μ-loop shape first end image output₀ work₀ own₀ come₀ go₀ z₀ up₀ down₀ best₀ kept₀ columns a b i₀ output work own come go z up down best kept i = end - i
+μ-loop shape first end image output₀ work₀ own₀ entering₀ leaving₀ other₀ centre₀ change₀ step₀ least₀ nearest₀ columns i₀ kept₀ output work own entering leaving other centre change step least nearest i kept = end - i
 
 -- back to places that the answers go by
-abbrev begin : tie.After-struct-known Inv-loop μ-loop → tie.Start Inv-loop μ-loop
-begin c = c .before .before .before .before .before .before .before .before .before .before .before .before
-
-abbrev before-first : tie.After-first-row Inv-loop μ-loop → tie.After-struct-known Inv-loop μ-loop
-before-first c = c .before .before .before .before .before .before .before .before .before .before
-
-abbrev first : tie.At-loop Inv-loop μ-loop → tie.After-first-row Inv-loop μ-loop
-first c =
-    c .before .before .before .before .before .before .before .before .before .before .before .before .before .before .before .before
-    .before .before .before
-
-abbrev turn : tie.After-next-row Inv-loop μ-loop → tie.In-loop Inv-loop μ-loop
-turn c = c .before .before .before .before .before .before .before .before .before .before .before
-
-abbrev done : tie.After-slice-known29 Inv-loop μ-loop → tie.After-next-row Inv-loop μ-loop
-done c =
-    c .before .before .before .before .before .before .before .before .before .before .before .before .before .before .before .before
-    .before .before .before .before
-
 abbrev start : tie.At-loop Inv-loop μ-loop → tie.Start Inv-loop μ-loop
-start c = begin (before-first (first c))
+start c = c .before .before .before .before .before .before .before .before .before .before .before .before .before .before
 
-next-place : (i n : ℕ) → (i + 1) * n ≡ i * n + n
-next-place i n = omega arith
+abbrev turn : tie.After-one-row Inv-loop μ-loop → tie.In-loop Inv-loop μ-loop
+turn c = c .before .before .before .before .before .before .before .before .before .before .before .before
 
--- the first row lies within the image
-first-room : (c : tie.After-struct-known Inv-loop μ-loop) → let a = begin c .args in
-    a .first * a .shape .columns + a .shape .columns ≤ length (a .image .now)
-first-room c = let s = begin c in row-room (s .pre .0 .ready) (s .args .first) (omega (arith, s .pre .1 .0))
+abbrev done : tie.After-struct-known2 Inv-loop μ-loop → tie.After-one-row Inv-loop μ-loop
+done c = c .before .before .before .before .before .before .before .before .before .before .before .before .before .before .before .before .before .before .before .before .before .before .before
 
--- so does the row of a turn
-next-room : (c : tie.In-loop Inv-loop μ-loop) → let a = start (c .before) .args in
-    (c .before .loop .i + 1) * a .shape .columns + a .shape .columns ≤ length (a .image .now)
-next-room c =
+accepted : (s : tie.Start Inv-loop μ-loop) → Accepted longestCycle (s .args .shape)
+accepted s = sizes (s .args .shape) (s .pre .0 .given .ready .shape)
+
+-- the row of a turn lies within the output
+inside : (c : tie.In-loop Inv-loop μ-loop) → let a = start (c .before) .args in let n = a .shape .columns in let i = c .before .loop .next in
+    (i * n + n ≤ length (a .output .now)) × (i * n + n ≤ mostRows * mostColumns)
+inside c =
     let s = start (c .before) in
-    row-room (s .pre .0 .ready) (c .before .loop .i + 1) (omega (arith, c .loop-test .taken, s .pre .1 .0))
-
--- the output with its first row
-first-run : (c : tie.After-first-row Inv-loop μ-loop) → let a = begin (before-first c) .args in let n = a .shape .columns in
-    Run (phaseAt (a .shape) (a .image .now)) (a .first * n) (a .output .now)
-    (putMid (a .first * n) (a .first * n + n - a .first * n) (a .output .now) (c .first-row .last .1 .1 .1 .1 .1 .1 .1 .1 .1 .1 .1 .0))
-    (a .first * n + n)
-first-run c =
-    let s = begin (before-first c) in
-    let n = s .args .shape .columns in
-    run-part (run-start {f = phaseAt (s .args .shape) (s .args .image .now)} {a = s .args .first * n} {l = s .args .output .now}) n _
-    (omega (arith, first-room (before-first c), s .pre .0 .ready .size, s .pre .1 .0)) (c .first-row .ensures .0)
-
--- the output keeps its length
-whole : (c : tie.At-loop Inv-loop μ-loop) → length (c .loop .output) ≡ length (start c .args .output .now)
-whole c = c .loop .inv .4 .len ∙ first-run (first c) .len
-
-cast-columns : tie.Need-cast-columns Inv-loop μ-loop
-cast-columns c = search needs
-
-mul-a : tie.Need-mul-a Inv-loop μ-loop
-mul-a c = omega (arith, first-room c, image-fits (begin c .pre .0 .ready))
-
-add-b : tie.Need-add-b Inv-loop μ-loop
-add-b c = omega (arith, first-room c, image-fits (begin c .pre .0 .ready))
-
-mul-first-row : tie.Need-mul-first-row Inv-loop μ-loop
-mul-first-row c =
-    let d = c .before .before .before .before .before .before .before .before in
-    omega (arith, first-room d, image-fits (begin d .pre .0 .ready))
-
-sub-first-row : tie.Need-sub-first-row Inv-loop μ-loop
-sub-first-row c = search needs
-
-part-first-row-start : tie.Need-part-first-row-start Inv-loop μ-loop
-part-first-row-start c = search needs
-
-part-first-row-end : tie.Need-part-first-row-end Inv-loop μ-loop
-part-first-row-end c =
-    let d = c .before .before .before .before .before .before .before .before in
-    let s = begin d in
-    omega (arith, first-room d, s .pre .0 .ready .size, s .pre .1 .0)
-
-first-row-requires : tie.Need-first-row-requires Inv-loop μ-loop
-first-row-requires c κs =
-    let d = c .before .before .before .before .before .before .before .before .before in
-    let s = begin d in
-    let a = s .args in
-    let n = a .shape .columns in
-    let room : a .first * n + n ≤ length (a .output .now) = omega (arith, first-room d, s .pre .0 .ready .size, s .pre .1 .0) in
-    let l = s .pre .1 .1 in
-    ((s .pre .0, omega (arith, s .pre .1 .0), part-length (a .first * n) n (a .output .now) room), (l .0, l .1, l .3))
+    let room = part-end (c .before .loop .next) (s .args .shape .rows) (s .args .shape .columns) (omega (arith, c .loop-test .taken, s .pre .0 .within)) in
+    (omega (arith, room, s .pre .0 .output-room), omega (arith, room, area-fits (accepted s)))
 
 loop-holds : tie.Need-loop-holds Inv-loop μ-loop
 loop-holds c =
-    let f = c .before .before .before .before .before .before .before .before .before .before .before .before .before .before .before .before .before .before in
-    let s = begin (before-first f) in
-    let x = f .first-row .ensures .1 in
-    (omega arith, s .pre .1 .0 .0, x .0 .0, outside-none, run-start, x .1 .0, x .1 .1, s .pre .1 .1 .2, x .1 .2)
+    let s = c .before .before .before .before .before .before .before .before .before .before .before .before .before in
+    (omega arith, s .pre .0 .order, kept-none (omega (arith, accepted s .mask-rows-odd)), outside-none, run-start, s .pre .1 .0, s .pre .1 .1)
 
-add-loop : tie.Need-add-loop Inv-loop μ-loop
-add-loop c = let s = start c in omega (arith, c .loop .inv .1, s .pre .1 .0, accepted (s .pre .0 .ready) .rows-fit)
+mul-a : tie.Need-mul-a Inv-loop μ-loop
+mul-a c = omega (arith, inside c)
 
-add-a : tie.Need-add-a Inv-loop μ-loop
-add-a c = let s = start (c .before) in omega (arith, c .loop-test .taken, s .pre .1 .0, accepted (s .pre .0 .ready) .rows-fit)
+add-b : tie.Need-add-b Inv-loop μ-loop
+add-b c = omega (arith, inside c)
 
-mul-a-2 : tie.Need-mul-a-2 Inv-loop μ-loop
-mul-a-2 c = omega (arith, next-room c, image-fits (start (c .before) .pre .0 .ready))
+mul-one-row : tie.Need-mul-one-row Inv-loop μ-loop
+mul-one-row c = omega (arith, inside (c .before .before .before .before .before .before .before .before .before .before))
 
-add-b-2 : tie.Need-add-b-2 Inv-loop μ-loop
-add-b-2 c = omega (arith, next-room c, image-fits (start (c .before) .pre .0 .ready))
-
-mul-next-row : tie.Need-mul-next-row Inv-loop μ-loop
-mul-next-row c =
-    let t = c .before .before .before .before .before .before .before .before .before in
-    omega (arith, next-room t, image-fits (start (t .before) .pre .0 .ready))
-
-sub-next-row : tie.Need-sub-next-row Inv-loop μ-loop
-sub-next-row c = search needs
-
-part-next-row-start : tie.Need-part-next-row-start Inv-loop μ-loop
-part-next-row-start c = search needs
-
-part-next-row-end : tie.Need-part-next-row-end Inv-loop μ-loop
-part-next-row-end c =
-    let t = c .before .before .before .before .before .before .before .before .before in
-    let s = start (t .before) in
-    omega (arith, next-room t, s .pre .0 .ready .size, s .pre .1 .0, whole (t .before))
-
-next-row-requires : tie.Need-next-row-requires Inv-loop μ-loop
-next-row-requires c κs =
+part-one-row-end : tie.Need-part-one-row-end Inv-loop μ-loop
+part-one-row-end c =
     let t = c .before .before .before .before .before .before .before .before .before .before in
-    let f = first (t .before) in
-    let s = begin (before-first f) in
+    omega (arith, inside t, t .before .loop .inv .4 .len)
+
+one-row-requires : tie.Need-one-row-requires Inv-loop μ-loop
+one-row-requires c κs =
+    let t = c .before .before .before .before .before .before .before .before .before .before .before in
+    let s = start (t .before) in
     let l = t .before .loop in
     let n = s .args .shape .columns in (
       (
-        given-kept (s .pre .0) (l .inv .3 .len ∙ f .first-row .ensures .1 .0 .1 .len),
-        omega (arith, t .loop-test .taken, s .pre .1 .0),
-        part-length ((l .i + 1) * n) n (l .output) (omega (arith, next-room t, s .pre .0 .ready .size, s .pre .1 .0, whole (t .before))),
+        given-kept (s .pre .0 .given) (l .inv .3 .len),
+        omega (arith, t .loop-test .taken, s .pre .0 .within),
+        l .inv .2,
+        part-length (l .next * n) n (l .output) (omega (arith, inside t, l .inv .4 .len)),
       ),
-      ((l .inv .5, l .inv .6, l .inv .7, l .inv .8), l .inv .2),
+      (l .inv .5, l .inv .6),
     )
 
-add-i : tie.Need-add-i Inv-loop μ-loop
-add-i c =
+cast-kept : tie.Need-cast-kept Inv-loop μ-loop
+cast-kept c = omega (arith, accepted (start (turn (done c) .before)) .mask-rows-fit)
+
+sub-kept : tie.Need-sub-kept Inv-loop μ-loop
+sub-kept c = omega (arith, accepted (start (turn (done c) .before)) .mask-rows-odd)
+
+add-next : tie.Need-add-next Inv-loop μ-loop
+add-next c =
     let t = turn (done c) in
     let s = start (t .before) in
-    omega (arith, t .loop-test .taken, s .pre .1 .0, accepted (s .pre .0 .ready) .rows-fit)
+    omega (arith, t .loop-test .taken, s .pre .0 .within, accepted s .rows-fit)
 
 loop-less : tie.Need-loop-less Inv-loop μ-loop
 loop-less c = omega (arith, turn (done c) .loop-test .taken)
 
 loop-again : tie.Need-loop-again Inv-loop μ-loop
 loop-again c =
-    let y = done c .next-row .ensures in
-    let t = turn (done c) in
+    let d = done c in
+    let t = turn d in
     let s = start (t .before) in
     let l = t .before .loop in
     let n = s .args .shape .columns in
-    let room = next-room t in (
+    let next : (l .next + 1) * n ≡ l .next * n + n = omega arith in
+    let x = d .one-row .ensures .1 in
+    let lent = d .one-row .kept .1 .1 .1 .1 .1 in
+    let lines = lent .1 .1 .1 .1 .1 in (
       omega (arith, l .inv .0),
-      t .loop-test .taken,
-      y .1 .0 .0,
-      outside-more (l .inv .3) (y .1 .0 .1),
-      rw (next-place (l .i + 1) n)
-          (run-part (l .inv .4) n _ (omega (arith, room, s .pre .0 .ready .size, s .pre .1 .0, l .inv .4 .len, whole (t .before))) (y .0)),
-      y .1 .1 .0,
-      y .1 .1 .1,
-      y .1 .1 .2,
-      y .1 .1 .3,
+      omega (arith, t .loop-test .taken),
+      kept-next (omega (arith, accepted s .mask-rows-odd)) (x .0),
+      outside-more (l .inv .3) (x .1),
+      rw next (run-part (l .inv .4) n _ (omega (arith, inside t)) (d .one-row .ensures .0)),
+      lined-kept (l .inv .5) (lent .0) (lent .1 .0) (lent .1 .1 .0) (lent .1 .1 .1 .0) (lent .1 .1 .1 .1 .0),
+      scratch-kept (l .inv .6) (lines .0) (lines .1 .0) (lines .1 .1 .0) (lines .1 .1 .1 .0),
     )
 
 same-length : tie.Need-same-length Inv-loop μ-loop
-same-length c = whole (c .before)
+same-length c = c .before .loop .inv .4 .len
 
 same-length-2 : tie.Need-same-length-2 Inv-loop μ-loop
-same-length-2 c = c .before .loop .inv .3 .len ∙ first (c .before) .first-row .ensures .1 .0 .1 .len
+same-length-2 c = c .before .loop .inv .3 .len
 
 same-length-3 : tie.Need-same-length-3 Inv-loop μ-loop
-same-length-3 c = c .before .loop .inv .5 .len ∙ sym (start (c .before) .pre .1 .1 .0 .len)
+same-length-3 c = c .before .loop .inv .5 .own-line ∙ sym (start (c .before) .pre .1 .0 .own-line)
 
 same-length-4 : tie.Need-same-length-4 Inv-loop μ-loop
-same-length-4 c = c .before .loop .inv .6 .len ∙ sym (start (c .before) .pre .1 .1 .1 .len)
+same-length-4 c = c .before .loop .inv .5 .last-line ∙ sym (start (c .before) .pre .1 .0 .last-line)
 
 same-length-5 : tie.Need-same-length-5 Inv-loop μ-loop
-same-length-5 c = c .before .loop .inv .7 .len ∙ sym (start (c .before) .pre .1 .1 .2 .len)
+same-length-5 c = c .before .loop .inv .5 .row-line ∙ sym (start (c .before) .pre .1 .0 .row-line)
 
 same-length-6 : tie.Need-same-length-6 Inv-loop μ-loop
-same-length-6 c = c .before .loop .inv .8 .z-len ∙ sym (start (c .before) .pre .1 .1 .3 .z-len)
+same-length-6 c = c .before .loop .inv .5 .other-line ∙ sym (start (c .before) .pre .1 .0 .other-line)
 
 same-length-7 : tie.Need-same-length-7 Inv-loop μ-loop
-same-length-7 c = c .before .loop .inv .8 .up-len ∙ sym (start (c .before) .pre .1 .1 .3 .up-len)
+same-length-7 c = c .before .loop .inv .5 .centres-line ∙ sym (start (c .before) .pre .1 .0 .centres-line)
 
 same-length-8 : tie.Need-same-length-8 Inv-loop μ-loop
-same-length-8 c = c .before .loop .inv .8 .down-len ∙ sym (start (c .before) .pre .1 .1 .3 .down-len)
+same-length-8 c = c .before .loop .inv .6 .change-line ∙ sym (start (c .before) .pre .1 .1 .change-line)
 
 same-length-9 : tie.Need-same-length-9 Inv-loop μ-loop
-same-length-9 c = c .before .loop .inv .8 .best-len ∙ sym (start (c .before) .pre .1 .1 .3 .best-len)
+same-length-9 c = c .before .loop .inv .6 .step-line ∙ sym (start (c .before) .pre .1 .1 .step-line)
 
 same-length-10 : tie.Need-same-length-10 Inv-loop μ-loop
-same-length-10 c = c .before .loop .inv .8 .kept-len ∙ sym (start (c .before) .pre .1 .1 .3 .kept-len)
+same-length-10 c = c .before .loop .inv .6 .least-line ∙ sym (start (c .before) .pre .1 .1 .least-line)
+
+same-length-11 : tie.Need-same-length-11 Inv-loop μ-loop
+same-length-11 c = c .before .loop .inv .6 .nearest-line ∙ sym (start (c .before) .pre .1 .1 .nearest-line)
 
 returns : tie.Need-returns Inv-loop μ-loop
 returns c =
     let l = c .before .loop in
-    let g = first (c .before) in
-    let s = begin (before-first g) in
-    let a = s .args in
-    let n = a .shape .columns in
-    let f = phaseAt (a .shape) (a .image .now) in
-    let e : l .i + 1 ≡ a .end = omega (arith, c .loop-test .left, l .inv .1) in
-    let low : (a .first + 1) * n ≤ a .end * n = mul-le-mul-right n (omega (arith, s .pre .1 .0)) in
-    let last : a .end * n ≤ length (a .output .now) =
-    omega (arith, mul-le-mul-right {m = a .end} {n = a .shape .rows} n (s .pre .1 .0 .1), s .pre .1 .0) in (
-      rw e at (l .inv .4 .is) ∙ ap (written f ((a .first + 1) * n) (a .end * n))
-          (first-run g .is ∙ ap (λ (k : ℕ). written f (a .first * n) k (a .output .now)) (sym (next-place (a .first) n)))
-          ∙ written-join 0 f (a .first * n) ((a .first + 1) * n) (a .end * n) (a .output .now) (omega arith) low last,
-      outside-more (g .first-row .ensures .1 .0 .1) (l .inv .3),
-    )
+    let e : l .next ≡ start (c .before) .args .end = omega (arith, l .inv .1, c .loop-test .left) in
+    record { phases = rw e at (l .inv .4 .is); outside = l .inv .3 }
 
 pub each-row-spec : {M : Type 1} → statement M
 each-row-spec =
@@ -249,25 +163,18 @@ each-row-spec =
     (tie.spec
     Inv-loop
     μ-loop
-    cast-columns
+    (λ c. search needs)
+    loop-holds
     mul-a
     add-b
-    mul-first-row
-    sub-first-row
-    part-first-row-start
-    part-first-row-end
-    first-row-requires
-    loop-holds
-    add-loop
-    add-a
-    mul-a-2
-    add-b-2
-    mul-next-row
-    sub-next-row
-    part-next-row-start
-    part-next-row-end
-    next-row-requires
-    add-i
+    mul-one-row
+    (λ c. search needs)
+    (λ c. search needs)
+    part-one-row-end
+    one-row-requires
+    cast-kept
+    sub-kept
+    add-next
     loop-less
     loop-again
     same-length
@@ -280,4 +187,5 @@ each-row-spec =
     same-length-8
     same-length-9
     same-length-10
+    same-length-11
     returns)

@@ -1,73 +1,43 @@
 -- `reading::rows::with_lines` meets its contract. Assumes nothing.
-use mathlib.Core.Path.{sym}
-use native.Mathlib.Omega.{arith}
+use Prim.Native.Nat.{ℕ}
+use mathlib.Core.Path.{_≡_}
 use borrow.Author.Needs.{needs}
-use Rattle.lists.proofs.Written.{written-none}
-use Rattle.memory.proofs.Memory.{outside-none}
-use Rattle.reading.proofs.Zeros.{blank-zeros, lined-zeros}
+use lib.ListN.{length, replicate, length-replicate}
+use Rattle.lines.specs.Lines.{IsLine, lineLength}
 use Rattle.reading.proofs.rows.with_lines.Statement.{statement}
 use Rattle.reading.proofs.rows.with_lines.Tie as tie
 
-returns : tie.Need-returns
-returns c = (rw (c .if1 .taken) (sym (written-none _ _ _)), outside-none)
-
-slice-aggregate-each-row : tie.Need-slice-aggregate-each-row
-slice-aggregate-each-row c = search needs
-
-slice-aggregate-each-row-2 : tie.Need-slice-aggregate-each-row-2
-slice-aggregate-each-row-2 c = search needs
-
-slice-aggregate-each-row-3 : tie.Need-slice-aggregate-each-row-3
-slice-aggregate-each-row-3 c = search needs
-
-slice-aggregate-each-row-4 : tie.Need-slice-aggregate-each-row-4
-slice-aggregate-each-row-4 c = search needs
-
-slice-aggregate-each-row-5 : tie.Need-slice-aggregate-each-row-5
-slice-aggregate-each-row-5 c = search needs
-
-slice-aggregate-each-row-6 : tie.Need-slice-aggregate-each-row-6
-slice-aggregate-each-row-6 c = search needs
-
-slice-aggregate-each-row-7 : tie.Need-slice-aggregate-each-row-7
-slice-aggregate-each-row-7 c = search needs
-
-slice-aggregate-each-row-8 : tie.Need-slice-aggregate-each-row-8
-slice-aggregate-each-row-8 c = search needs
+-- an array of zeros is a line
+zeros : IsLine (replicate {A = ℕ} lineLength 0)
+zeros = length-replicate {A = ℕ} lineLength 0
 
 each-row-requires : tie.Need-each-row-requires
 each-row-requires c κs =
-    let d = c .before .before .before .before .before .before .before .before .before .before in
-    let s = d .before .before .before .before in
-    let o = s .pre .1 in
-    let blank = blank-zeros (s .args .shape) in
-    (s .pre .0, ((omega (arith, d .if1 .left, o .0), o .1, o .2), (blank, blank, blank, lined-zeros)))
+    let s = c .before .before .before .before .before .before .before .before .before .before .before .before .before .before in (
+      s .pre,
+      (
+        record { own-line = zeros; last-line = zeros; row-line = zeros; other-line = zeros; centres-line = zeros },
+        record { change-line = zeros; step-line = zeros; least-line = zeros; nearest-line = zeros },
+      ),
+    )
 
-same-length : tie.Need-same-length
-same-length c = search needs
-
-same-length-2 : tie.Need-same-length-2
-same-length-2 c = search needs
-
-returns-2 : tie.Need-returns-2
-returns-2 c =
-    let d = c .before .before .before .before .before .before .before .before .before .before .before .before in
-    d .each-row .ensures
+returns : tie.Need-returns
+returns c = c .before .before .before .before .before .before .before .before .before .before .before .before .before .each-row .ensures
 
 pub with-lines-spec : {M : Type 1} → statement M
 with-lines-spec =
     tie.close
     (tie.spec
-    returns
-    slice-aggregate-each-row
-    slice-aggregate-each-row-2
-    slice-aggregate-each-row-3
-    slice-aggregate-each-row-4
-    slice-aggregate-each-row-5
-    slice-aggregate-each-row-6
-    slice-aggregate-each-row-7
-    slice-aggregate-each-row-8
+    (λ c. search needs)
+    (λ c. search needs)
+    (λ c. search needs)
+    (λ c. search needs)
+    (λ c. search needs)
+    (λ c. search needs)
+    (λ c. search needs)
+    (λ c. search needs)
+    (λ c. search needs)
     each-row-requires
-    same-length
-    same-length-2
-    returns-2)
+    (λ c. search needs)
+    (λ c. search needs)
+    returns)

@@ -1,4 +1,0 @@
-pub mod LineLaws
-pub mod Padding
-pub mod Shifts
-pub mod Added

@@ -1,0 +1,37 @@
+-- The choice of the reading engine: the readings of a window are weighed one after the other, and the least sum so far is kept with
+-- the least rank among the readings that have it. Internal to the engine.
+use Prim.Native.Nat.{ℕ, _+_, _*_, _≤_, _<_}
+use mathlib.Core.Path.{_≡_}
+use mathlib.Core.Logic.{_⊎_}
+use mathlib.Core.List.{List, [], _++_}
+use lib.ListN.{getD}
+use Rattle.lists.specs.Members.{In}
+use Rattle.lists.specs.Tabulate.{tabulate}
+use Rattle.shape.specs.declared.Shape.{Shape}
+use Rattle.median.specs.Sum.{shares}
+use Rattle.median.specs.Choice.{rank, key}
+use Rattle.window.specs.Window.{padded, block, window, centre}
+use Rattle.reading_choice.specs.Ranks.{noSum}
+
+-- some reading has the sum `best` and the rank `near`
+abbrev pub Found : ℕ → ℕ → (ℕ → ℕ) → List ℕ → ℕ → ℕ → Type 0
+Found c a sum zs best near = (q : ℕ) × In q zs × (best ≡ sum q) × (near ≡ rank c a q)
+
+-- nothing is weighed yet
+abbrev pub Unweighed : List ℕ → ℕ → ℕ → Type 0
+Unweighed zs best near = (zs ≡ []) × (best ≡ noSum) × (near ≡ 0)
+
+-- the readings zs are weighed, by their sums and their ranks from the centre a
+pub record Weighed (c a : ℕ) (sum : ℕ → ℕ) (zs : List ℕ) (best near : ℕ) : Type 0 where
+  pub low : (q : ℕ) → In q zs → best * (2 * c) + near ≤ key c a sum q
+  pub near-cycle : near ≤ c
+  pub found : Unweighed zs best near ⊎ Found c a sum zs best near
+
+-- in the window of row i and column j, the readings of the first k rows and l of the next
+abbrev pub part : Shape → List ℕ → ℕ → ℕ → ℕ → ℕ → List ℕ
+part s image i j k l = block (padded 0 s image) (s .«mask_columns») i j k ++ tabulate (padded 0 s image (i + k)) j l
+
+-- in every window of row i these are weighed
+pub record RowWeighed (s : Shape) (image : List ℕ) (i k l : ℕ) (best near : List ℕ) : Type 0 where
+  pub weighed : (j : ℕ) → j < s .columns
+      → Weighed (s .cycle) (centre 0 s image i j) (λ q. shares (s .cycle) q (window 0 s image i j)) (part s image i j k l) (getD best j 0) (getD near j 0)
