@@ -19,7 +19,7 @@ ghost use Rattle.shape.specs.Rules.{shapeRules};
 ghost use Rattle.memory.specs.Memory.{Changed, Signed};
 ghost use Rattle.memory.specs.Parts.{copied};
 ghost use Rattle.lines.specs.Lines.{IsLine};
-ghost use Rattle.reading_choice.specs.Ranks.{wayTo, rankBy, rankOf, ranked, unweighedSum, unweighedRank, lowerPair, keptSum, keptRank, tickOf, tickAt};
+ghost use Rattle.reading_choice.specs.Ranks.{wayTo, rankOf, ranked, unweighedSum, unweighedRank, lowerPair, keptSum, keptRank, tickOf, tickAt};
 
 // The cycle to add to q - a, so that it counts ticks ahead: none where q is not behind a.
 fn turn_of(cycle: u16, a: u16, q: u16) -> u16

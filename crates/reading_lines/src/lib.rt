@@ -4,7 +4,6 @@
 use median::share_of;
 use std::num::wrapping_add_u32;
 use std::num::wrapping_sub_u32;
-ghost use mathlib.Core.Path.{_≡_};
 ghost use Prim.Native.Nat.{_+_, _/_, _≤_};
 ghost use lib.ListN.{length};
 ghost use Rattle.memory.specs.Memory.{Changed};

@@ -6,8 +6,7 @@ use native.Mathlib.Omega.{arith}
 use native.Mathlib.Nat.{add-zero, mod-lt, mul-le-mul}
 use lib.ListN.{getD}
 use Rattle.lists.specs.Tabulate.{tabulate}
-use Rattle.lists.specs.Total.{total, totalFrom}
-use Rattle.lists.specs.Difference.{difference}
+use Rattle.lists.specs.Total.{totalFrom}
 use Rattle.lists.proofs.Total.{total-places, total-zeros, total-from-cong}
 use Rattle.lists.proofs.Difference.{difference-is}
 use Rattle.refusal.specs.Limits.{longestCycle, mostColumns, mostMaskRows, mostMaskColumns}

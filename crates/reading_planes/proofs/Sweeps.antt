@@ -12,9 +12,9 @@ use Rattle.lists.specs.Difference.{difference, adjusted}
 use Rattle.lists.proofs.Total.{total-none, total-more, total-before, total-split}
 use Rattle.lists.proofs.Difference.{difference-adjusted, difference-sum, difference-none}
 use Rattle.shape.specs.declared.Shape.{Shape}
-use Rattle.memory.specs.Memory.{Holds, Changed}
+use Rattle.memory.specs.Memory.{Changed}
 use Rattle.memory.specs.Parts.{zeros}
-use Rattle.memory.proofs.Memory.{changed-first, holds-before, holds-after}
+use Rattle.memory.proofs.Memory.{holds-before, holds-after}
 use Rattle.reading_planes.specs.Planes.{Gain, net, Counted, Ahead, Behind, Plane, front, whole, added, Fronts}
 
 module _ (gain loss : Gain) (p : ℕ) where

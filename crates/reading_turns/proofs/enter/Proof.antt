@@ -8,7 +8,6 @@ use borrow.Author.Needs.{needs}
 use lib.ListN.{length}
 use Rattle.refusal.specs.Limits.{longestCycle}
 use Rattle.shape.specs.Rules.{reach}
-use Rattle.shape.specs.declared.Shape.{Shape}
 use Rattle.shape.proofs.Accepted.{Accepted}
 use Rattle.memory.specs.Memory.{Outside, Changed}
 use Rattle.memory.specs.Parts.{zeros}
@@ -16,7 +15,7 @@ use Rattle.memory.proofs.Memory.{outside-none, outside-more, outside-within}
 use Rattle.lines.specs.Lines.{IsLine, Line}
 use Rattle.reading_planes.specs.Planes.{ofRows, none, Fronts, planes}
 use Rattle.reading_planes.specs.Sums.{place}
-use Rattle.reading_planes.proofs.Sums.{sizes, planes-fit, place-fits, row-inside, sum-built}
+use Rattle.reading_planes.proofs.Sums.{sizes, row-inside, sum-built}
 use Rattle.reading_planes.proofs.Ring.{place-room, outside-at}
 use Rattle.reading_choice.specs.Weighed.{RowWeighed}
 use Rattle.reading_choice.proofs.RowLaws.{row-last}

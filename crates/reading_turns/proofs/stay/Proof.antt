@@ -8,7 +8,6 @@ use borrow.Author.Needs.{needs}
 use lib.ListN.{length, getD}
 use Rattle.refusal.specs.Limits.{longestCycle}
 use Rattle.shape.specs.Rules.{reach}
-use Rattle.shape.specs.declared.Shape.{Shape}
 use Rattle.shape.proofs.Accepted.{Accepted}
 use Rattle.memory.specs.Memory.{Outside, Changed}
 use Rattle.memory.specs.Parts.{zeros}
@@ -17,7 +16,7 @@ use Rattle.lines.specs.Lines.{Line}
 use Rattle.reading_lines.specs.Passes.{ofLine}
 use Rattle.reading_planes.specs.Planes.{Fronts, held, planes}
 use Rattle.reading_planes.specs.Sums.{place}
-use Rattle.reading_planes.proofs.Sums.{sizes, planes-fit, place-fits, row-inside, sum-from-above}
+use Rattle.reading_planes.proofs.Sums.{sizes, row-inside, sum-from-above}
 use Rattle.reading_planes.proofs.Ring.{place-room, outside-at}
 use Rattle.reading_choice.specs.Weighed.{RowWeighed}
 use Rattle.reading_choice.proofs.RowLaws.{row-last}

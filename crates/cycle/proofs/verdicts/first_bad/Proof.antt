@@ -1,5 +1,5 @@
 -- `cycle::verdicts::first_bad` meets its contract: if the highest reading is good, all are. Assumes nothing.
-use Prim.Native.Nat.{ℕ, _≤_, _<_}
+use Prim.Native.Nat.{ℕ, _<_}
 use mathlib.Core.Path.{_≡_, sym, _∙_}
 use mathlib.Core.Bool.{false≢true}
 use mathlib.Core.List.{List}

@@ -1,5 +1,4 @@
 -- `filter::engines::fill` meets its contract. Assumes nothing.
-use Prim.Native.Nat.{ℕ, _+_, _*_}
 use mathlib.Core.Path.{_≡_}
 use native.Mathlib.Nat.{mul-comm}
 use native.Mathlib.Omega.{arith}

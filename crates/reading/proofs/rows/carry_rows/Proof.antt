@@ -1,16 +1,15 @@
 -- `reading::rows::carry_rows` meets its contract: mask row after mask row has the sums of row i, and the others still those of the row
 -- before it. Assumes nothing.
-use Prim.Native.Nat.{ℕ, _+_, _-_, _*_, _≤_, _<_}
+use Prim.Native.Nat.{_+_, _-_, _≤_}
 use mathlib.Core.Path.{_≡_, sym, _∙_}
 use native.Mathlib.Omega.{arith}
-use borrow.Author.Needs.{needs}
 use Rattle.refusal.specs.Limits.{longestCycle}
 use Rattle.shape.proofs.Accepted.{Accepted}
 use Rattle.memory.specs.Memory.{Outside}
 use Rattle.memory.proofs.Memory.{outside-none, outside-more}
 use Rattle.lines.specs.Lines.{IsLine}
 use Rattle.reading_planes.specs.Sums.{need, RowSums}
-use Rattle.reading_planes.proofs.Sums.{sizes, row-inside, given-kept}
+use Rattle.reading_planes.proofs.Sums.{sizes, given-kept}
 use Rattle.reading_planes.proofs.Ring.{outside-need}
 use Rattle.reading_choice.specs.Weighed.{RowWeighed}
 use Rattle.reading_turns.specs.Scratch.{Scratch}

@@ -1,15 +1,13 @@
 -- `reading::rows::one_row` meets its contract: the mask rows that are kept are carried, the others built, and once all are weighed the ranks
 -- tell the phases. Assumes nothing.
-use Prim.Native.Nat.{ℕ, _+_, _-_, _*_, _≤_, _<_}
-use mathlib.Core.Path.{_≡_, refl, sym, _∙_}
+use Prim.Native.Nat.{_-_}
+use mathlib.Core.Path.{refl, sym, _∙_}
 use native.Mathlib.Omega.{arith}
 use borrow.Author.Needs.{needs}
 use Rattle.refusal.specs.Limits.{longestCycle}
 use Rattle.shape.proofs.Accepted.{Accepted}
 use Rattle.memory.proofs.Memory.{outside-more}
-use Rattle.lines.specs.Lines.{IsLine}
 use Rattle.reading_planes.proofs.Sums.{sizes, given-kept}
-use Rattle.reading_choice.specs.Weighed.{RowWeighed}
 use Rattle.reading_choice.proofs.RowLaws.{row-unweighed, row-ranks, row-settled}
 use Rattle.reading.proofs.Kept.{scratch-kept}
 use Rattle.reading.proofs.rows.one_row.Statement.{statement}

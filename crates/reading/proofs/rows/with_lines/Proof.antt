@@ -1,8 +1,7 @@
 -- `reading::rows::with_lines` meets its contract. Assumes nothing.
 use Prim.Native.Nat.{ℕ}
-use mathlib.Core.Path.{_≡_}
 use borrow.Author.Needs.{needs}
-use lib.ListN.{length, replicate, length-replicate}
+use lib.ListN.{replicate, length-replicate}
 use Rattle.lines.specs.Lines.{IsLine, lineLength}
 use Rattle.reading.proofs.rows.with_lines.Statement.{statement}
 use Rattle.reading.proofs.rows.with_lines.Tie as tie

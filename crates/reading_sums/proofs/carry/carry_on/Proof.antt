@@ -1,6 +1,6 @@
 -- `reading_sums::carry::carry_on` meets its contract: the steps at one offset behind are moved on, at the plane's places and past them.
 -- Assumes nothing.
-use Prim.Native.Nat.{ℕ, _+_, _-_, _%_, _^_, _≤_, _<_}
+use Prim.Native.Nat.{ℕ, _+_, _-_, _%_, _^_, _≤_}
 use mathlib.Core.Path.{_≡_, refl, ap, sym, _∙_}
 use native.Mathlib.Omega.{arith}
 use borrow.Author.Needs.{needs}
@@ -10,7 +10,6 @@ use Rattle.shape.proofs.Accepted.{Accepted}
 use Rattle.memory.proofs.Memory.{changed-is}
 use Rattle.lines.specs.Lines.{lineLength}
 use Rattle.reading_lines.specs.Passes.{ofLine}
-use Rattle.reading_planes.specs.Planes.{Behind, added}
 use Rattle.reading_planes.proofs.Sums.{sizes}
 use Rattle.reading_planes.proofs.Sweeps.{behind-more}
 use Rattle.reading_sums.proofs.Turns.{counted-steps}
