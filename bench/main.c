@@ -1,7 +1,7 @@
 /* The benchmark: both engines of the library beside Algorithms 1 and 2 of document 000 and the direct sum, each as
  * written and tuned, on the same images.
  *
- * The first row, which is set up afresh, takes engines and algorithms as long as 1 to 4 later rows at 3x3 and as 7 to
+ * The first row, which is set up afresh, takes engines and algorithms as long as 1 to 4 later rows at 3x3 and as 4 to
  * 13 at 31x31; rows are so many that this weighs little in a ratio. */
 #include "report.h"
 

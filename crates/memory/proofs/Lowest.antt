@@ -1,13 +1,13 @@
 -- Laws of the lowest number: none is lower, and it is one of them. Assumes nothing.
-use Prim.Native.Nat.{ℕ, zero, suc, _+_, _-_, _^_, _≤_, _<_, min}
+use Prim.Native.Nat.{ℕ, zero, suc, _+_, _^_, _≤_, _<_, min}
 use mathlib.Core.Path.{_≡_, refl}
 use native.Mathlib.Omega.{arith}
 use native.Mathlib.Decide.{decLe, ℕ-discrete}
 use native.Mathlib.Numerals.{add-one}
-use Rattle.memory.specs.Memory.{Signed, lowest}
+use Rattle.memory.specs.Memory.{Signed, noSum, lowest}
 
 module _ (f : ℕ → ℕ) where
-  pub lowest-none : lowest f 0 ≡ 2 ^ 31 - 1
+  pub lowest-none : lowest f 0 ≡ noSum
   unfolding lowest
   lowest-none = refl
 

@@ -34,7 +34,11 @@ pub record ChangedBoth (w₀ w : List ℕ) (base other n : ℕ) (f g : ℕ → �
 abbrev pub Signed : (ℕ → ℕ) → ℕ → Type 0
 Signed f n = (q : ℕ) → q < n → f q < 2 ^ 31
 
+-- no sum: the highest signed number, above every sum (`shares-small` of window)
+abbrev pub noSum : ℕ
+noSum = 2 ^ 31 - 1
+
 -- the lowest of f 0 to f (n - 1), all of which are signed numbers
 unfoldable pub lowest : (ℕ → ℕ) → ℕ → ℕ
-lowest f zero = 2 ^ 31 - 1
+lowest f zero = noSum
 lowest f (suc n) = min (f n) (lowest f n)

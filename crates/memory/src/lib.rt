@@ -9,6 +9,9 @@ ghost use lib.ListN.{length, getD};
 ghost use Rattle.memory.specs.Memory.{Changed, ChangedBoth, Signed, lowest};
 ghost use Rattle.memory.specs.Parts.{zeros, added, swapped, turned, summed, copied};
 
+// No sum: the highest signed number, above every sum.
+pub const NO_SUM: u32 = 2147483647;
+
 // Sets n numbers to 0.
 pub fn clear(work: &mut [u32], base: usize, n: usize)
     requires { ⌜ base + n ≤ length (now work) ⌝ }
@@ -83,7 +86,7 @@ pub fn lowest_of(work: &[u32], base: usize, n: usize) -> u32
     requires { ⌜ (base + n ≤ length (now work)) × Signed (copied (now work) base) n ⌝ }
     ensures { λ r. ⌜ r ≡ lowest (copied (now (work .entry)) base) n ⌝ }
 {
-    let mut least: u32 = 2147483647;
+    let mut least = NO_SUM;
     let mut q = 0;
     while q < n {
         least = lower(work[base + q], least);
@@ -114,7 +117,7 @@ pub fn turn(
         (turned (now (work .entry)) change (now (table .entry)) in1 in2 out1 out2))
         × (r ≡ lowest (summed (now (work .entry)) base (turned (now (work .entry)) change (now (table .entry)) in1 in2 out1 out2)) n) ⌝ }
 {
-    let mut least: u32 = 2147483647;
+    let mut least = NO_SUM;
     let mut q = 0;
     while q < n {
         let more = wrapping_add_u32(work[change + q], table[in1 + q] + table[in2 + q]);

@@ -15,7 +15,8 @@ use Rattle.median.specs.Choice.{rank, key, chosen}
 use Rattle.median.proofs.Sum.{shares-sum}
 use Rattle.median.proofs.Choice.{key-chosen, choose-chosen, chosen-only}
 use Rattle.median.proofs.Readings.{choose-readings}
-use Rattle.reading_choice.specs.Ranks.{noSum, lowerPair, tickOf}
+use Rattle.memory.specs.Memory.{noSum}
+use Rattle.reading_choice.specs.Ranks.{lowerPair, tickOf}
 use Rattle.reading_choice.specs.Weighed.{Found, Unweighed, Weighed}
 use Rattle.reading_choice.proofs.RankLaws.{rank-cycle, tick-rank}
 

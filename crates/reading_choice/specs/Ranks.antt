@@ -4,6 +4,7 @@ use mathlib.Core.Bool.{Bool, cond, _&&_, _||_}
 use mathlib.Core.List.{List}
 use lib.Dec.{ltb, leb, eqb}
 use lib.ListN.{getD}
+use Rattle.memory.specs.Memory.{noSum}
 
 -- how many ticks q lies ahead of a, in numbers of 16 bits; of two numbers that are no ticks some number
 unfoldable pub wayTo : ℕ → ℕ → ℕ → ℕ
@@ -21,9 +22,6 @@ abbrev pub ranked : ℕ → List ℕ → List ℕ → ℕ → ℕ → ℕ
 ranked c centres own l j = rankOf c (getD centres j 0) (getD own (l + j) 0)
 
 -- nothing weighed yet: no sum comes up to the first, and with it no rank is below the second
-abbrev pub noSum : ℕ
-noSum = 2 ^ 31 - 1
-
 abbrev pub unweighedSum : ℕ → ℕ
 unweighedSum j = noSum
 

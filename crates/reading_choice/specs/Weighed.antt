@@ -10,8 +10,8 @@ use Rattle.lists.specs.Tabulate.{tabulate}
 use Rattle.shape.specs.declared.Shape.{Shape}
 use Rattle.median.specs.Sum.{shares}
 use Rattle.median.specs.Choice.{rank, key}
+use Rattle.memory.specs.Memory.{noSum}
 use Rattle.window.specs.Window.{padded, block, window, centre}
-use Rattle.reading_choice.specs.Ranks.{noSum}
 
 -- some reading has the sum `best` and the rank `near`
 abbrev pub Found : ℕ → ℕ → (ℕ → ℕ) → List ℕ → ℕ → ℕ → Type 0

@@ -5,6 +5,7 @@
 // numbers, which takes fewer packed instructions. Internal: the engine meets each `requires`.
 use cycle::least;
 use cycle::less;
+use memory::NO_SUM;
 use shape::Shape;
 use std::num::wrapping_add_u16;
 use std::num::wrapping_sub_u16;
@@ -71,7 +72,7 @@ pub fn reset(least: &mut [u32], nearest: &mut [u32], n: usize)
 {
     let mut j = 0;
     while j < n {
-        least[j] = 2147483647;
+        least[j] = NO_SUM;
         nearest[j] = 0;
         j += 1;
     }
