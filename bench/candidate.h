@@ -26,8 +26,8 @@ struct candidate {
 };
 
 extern const struct candidate level_engine, reading_engine;
-extern const struct candidate literal2, tuned2;       /* Algorithm 2 as written, and tuned */
-extern const struct candidate literal1, tuned1;       /* Algorithm 1 */
-extern const struct candidate literal_sum, tuned_sum; /* the direct sum */
+extern const struct candidate algorithm2_literal, algorithm2_tuned; /* Algorithm 2 as written, and tuned */
+extern const struct candidate algorithm1_literal, algorithm1_tuned; /* Algorithm 1 */
+extern const struct candidate direct_sum_literal, direct_sum_tuned; /* the direct sum */
 
 #endif

@@ -9,7 +9,8 @@
 #include <time.h>
 
 static const struct candidate *const candidates[CANDIDATES] = {
-    &level_engine, &reading_engine, &literal2, &tuned2, &literal1, &tuned1, &literal_sum, &tuned_sum,
+    &level_engine,       &reading_engine,   &algorithm2_literal, &algorithm2_tuned,
+    &algorithm1_literal, &algorithm1_tuned, &direct_sum_literal, &direct_sum_tuned,
 };
 
 static const double ENOUGH = 0.4; /* seconds for a candidate, unless ROUNDS take longer */

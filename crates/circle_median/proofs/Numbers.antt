@@ -13,26 +13,26 @@ use Rattle.refusal.proofs.Outcome.{accepted-value}
 use Rattle.refusal.proofs.Order.{due-numbered}
 use Rattle.cycle.specs.Distance.{distance}
 use Rattle.cycle.specs.Step.{step, drift, inSlot}
-use Rattle.cycle.specs.Calls.{pairRules, slotRules, rowRules, distanceCall, stepCall, slotCall, driftCall}
+use Rattle.cycle.specs.Calls.{pairRules, slotRules, rowRules, distanceDue, stepDue, slotDue, driftDue}
 use Rattle.cycle.proofs.Order.{pair-numbered, slot-numbered, row-numbered}
 use Rattle.shape.specs.declared.Shape.{Shape}
 use Rattle.filter.specs.declared.Engine.{Engine}
 use Rattle.filter.specs.declared.Engine.the-variants.{Level, Reading}
 use Rattle.filter.specs.declared.FilterAnswer.the-variants.{Filtered}
-use Rattle.filter.specs.Calls.{filterRules, filterCall, Call, SameRows}
+use Rattle.filter.specs.Calls.{filterRules, filterDue, FilterCall, SameRows}
 use Rattle.filter.proofs.Order.{filter-numbered}
 use Rattle.filter.proofs.Demand3.{same-rows}
-use Rattle.record_format.specs.Record.{recordLength, writeRules, writeCall}
-use Rattle.record_format.specs.Reading.{shapeIn, readRules, readCall}
+use Rattle.record_format.specs.Record.{recordLength, writeRules, writeDue}
+use Rattle.record_format.specs.Reading.{shapeIn, readRules, readDue}
 use Rattle.record_format.proofs.Order.{write-numbered, read-numbered}
 use Rattle.record.specs.declared.ReadAnswer.the-variants.{Read}
 use Rattle.record.specs.declared.WriteAnswer.the-variants.{Written}
-use Rattle.record.specs.Calls.{Reads, Writes}
+use Rattle.record.specs.Calls.{ReadCall, WriteCall}
 use Rattle.circle_median.specs.declared.answers.Answer.{Answer}
 use Rattle.circle_median.specs.declared.answers.ValueAnswer.{ValueAnswer}
 use Rattle.circle_median.specs.declared.answers.RecordAnswer.{RecordAnswer}
 use Rattle.circle_median.specs.Answers.{answerOf, valueOf, recordOf, natural, flag}
-use Rattle.circle_median.specs.Calls.{ExportedFilter, ExportedWrite, ExportedRead}
+use Rattle.circle_median.specs.Calls.{ExportedFilterCall, ExportedWriteCall, ExportedReadCall}
 
 -- The law, of any answer that tells a refusal's number: where no rule has the number 0, an answer with the number 0 tells an accepted call.
 module _ {A B : Type 0} (tell : Outcome A → B) (number : B → ℕ) (tells : (n k : ℕ) → number (tell (refused n k)) ≡ n) (v : A) (rs : List Rule)
@@ -47,10 +47,10 @@ module _ {A B : Type 0} (tell : Outcome A → B) (number : B → ℕ) (tells : (
           absurd (omega (arith, zero, n-is, due-numbered v rs numbered said))
 
 module _ {e : Engine} {s : Shape} {first end : ℕ} {image output work output₁ work₁ : List ℕ} {r : Answer}
-    (call : ExportedFilter e s first end image output work r output₁ work₁) where
+    (call : ExportedFilterCall e s first end image output work r output₁ work₁) where
   -- a filter that answers 0 is an accepted call
-  pub number-zero : r .number ≡ 0 → Call e s first end image output work Filtered output₁ work₁
-  unfolding filterCall
+  pub number-zero : r .number ≡ 0 → FilterCall e s first end image output work Filtered output₁ work₁
+  unfolding filterDue
   number-zero zero =
       let rs = filterRules e s first end image (length output) (length work) in
       let numbered = filter-numbered e s first end image (length output) (length work) in
@@ -59,8 +59,8 @@ module _ {e : Engine} {s : Shape} {first end : ℕ} {image output work output₁
 
 -- Demand 3 for programs in C and Rust: two filters that answer 0 on one shape, image and range have written the same rows.
 pub exported-same-rows : {s : Shape} {first end : ℕ} {image output work output₁ work₁ other room other₁ room₁ : List ℕ} {r q : Answer}
-    → ExportedFilter Level s first end image output work r output₁ work₁ → r .number ≡ 0
-    → ExportedFilter Reading s first end image other room q other₁ room₁ → q .number ≡ 0
+    → ExportedFilterCall Level s first end image output work r output₁ work₁ → r .number ≡ 0
+    → ExportedFilterCall Reading s first end image other room q other₁ room₁ → q .number ≡ 0
     → SameRows s first end output₁ other₁
 exported-same-rows level zero reading nought = same-rows (number-zero level zero) (number-zero reading nought)
 
@@ -73,26 +73,26 @@ value-zero {A} tell tells v rs numbered is zero =
     ap (λ (a : ValueAnswer). a .value) (is ∙ ap (λ (o : Outcome A). valueOf (tell o)) said)
 
 module _ {r : ValueAnswer} (c : ℕ) where
-  pub distance-zero : (a b : ℕ) → r ≡ valueOf (natural (distanceCall c a b)) → r .number ≡ 0 → r .value ≡ pos (distance c a b)
-  unfolding distanceCall
+  pub distance-zero : (a b : ℕ) → r ≡ valueOf (natural (distanceDue c a b)) → r .number ≡ 0 → r .value ≡ pos (distance c a b)
+  unfolding distanceDue
   distance-zero a b = value-zero natural (λ n k. refl) (distance c a b) (pairRules c a b) (pair-numbered c a b)
 
-  pub step-zero : (a b : ℕ) → r ≡ valueOf (stepCall c a b) → r .number ≡ 0 → r .value ≡ step c a b
-  unfolding stepCall
+  pub step-zero : (a b : ℕ) → r ≡ valueOf (stepDue c a b) → r .number ≡ 0 → r .value ≡ step c a b
+  unfolding stepDue
   step-zero a b = value-zero (λ o. o) (λ n k. refl) (step c a b) (pairRules c a b) (pair-numbered c a b)
 
-  pub slot-zero : (p s w : ℕ) → r ≡ valueOf (flag (slotCall c p s w)) → r .number ≡ 0 → r .value ≡ cond (inSlot c s w p) (pos 1) (pos 0)
-  unfolding slotCall
+  pub slot-zero : (p s w : ℕ) → r ≡ valueOf (flag (slotDue c p s w)) → r .number ≡ 0 → r .value ≡ cond (inSlot c s w p) (pos 1) (pos 0)
+  unfolding slotDue
   slot-zero p s w = value-zero flag (λ n k. refl) (inSlot c s w p) (slotRules c p s w) (slot-numbered c p s w)
 
-  pub drift-zero : (row : List ℕ) → r ≡ valueOf (driftCall c row) → r .number ≡ 0 → r .value ≡ drift c row
-  unfolding driftCall
+  pub drift-zero : (row : List ℕ) → r ≡ valueOf (driftDue c row) → r .number ≡ 0 → r .value ≡ drift c row
+  unfolding driftDue
   drift-zero row = value-zero (λ o. o) (λ n k. refl) (drift c row) (rowRules c row) (row-numbered c row)
 
 -- a writer that answers 0 has written the record, and its value is the record's length
-pub write-zero : {s : Shape} {readings bytes : List ℕ} {r : ValueAnswer} {bytes′ : List ℕ} → ExportedWrite s readings bytes r bytes′ → r .number ≡ 0
-    → Writes s readings bytes (Written (recordLength s)) bytes′ × (r .value ≡ pos (recordLength s))
-unfolding writeCall
+pub write-zero : {s : Shape} {readings bytes : List ℕ} {r : ValueAnswer} {bytes′ : List ℕ} → ExportedWriteCall s readings bytes r bytes′ → r .number ≡ 0
+    → WriteCall s readings bytes (Written (recordLength s)) bytes′ × (r .value ≡ pos (recordLength s))
+unfolding writeDue
 write-zero {s} {readings} {bytes} call zero =
     let rs = writeRules s readings (length bytes) in
     let numbered = write-numbered s readings (length bytes) in
@@ -100,9 +100,9 @@ write-zero {s} {readings} {bytes} call zero =
     (record { answer = sym said; memory = call .memory }, value-zero natural (λ n k. refl) (recordLength s) rs numbered (call .answer) zero)
 
 -- a reader that answers 0 has read the record, and its five numbers are the record's
-pub read-zero : {bytes buffer : List ℕ} {r : RecordAnswer} {buffer′ : List ℕ} → ExportedRead bytes buffer r buffer′ → r .number ≡ 0
-    → Reads bytes buffer (Read (shapeIn bytes)) buffer′ × (r ≡ recordOf (accepted (shapeIn bytes)))
-unfolding readCall
+pub read-zero : {bytes buffer : List ℕ} {r : RecordAnswer} {buffer′ : List ℕ} → ExportedReadCall bytes buffer r buffer′ → r .number ≡ 0
+    → ReadCall bytes buffer (Read (shapeIn bytes)) buffer′ × (r ≡ recordOf (accepted (shapeIn bytes)))
+unfolding readDue
 read-zero {bytes} {buffer} call zero =
     let rs = readRules bytes (length buffer) in
     let said = zero-accepted recordOf (λ a. a .number) (λ n k. refl) (shapeIn bytes) rs (read-numbered bytes (length buffer)) (call .answer) zero in

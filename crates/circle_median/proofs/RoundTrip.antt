@@ -2,9 +2,10 @@
 -- Over the contracts of the exported writer and reader alone. Assumes nothing.
 use Prim.Native.Nat.{ℕ, _*_, _≤_, _<_}
 use mathlib.Core.Path.{_≡_, ap, _∙_}
-use mathlib.Core.List.{List, _++_}
+use mathlib.Core.List.{List}
 use lib.IntN.{pos}
-use lib.ListN.{length, take, drop}
+use lib.ListN.{length, take}
+use Rattle.lists.specs.Front.{atFront}
 use Rattle.refusal.specs.Outcome.{Outcome}
 use Rattle.refusal.specs.Outcome.Outcome.{accepted, refused}
 use Rattle.shape.specs.declared.Shape.{Shape}
@@ -13,19 +14,19 @@ use Rattle.record_format.specs.Fields.{Bytes}
 use Rattle.record_format.specs.Record.{recordLength}
 use Rattle.record_format.specs.Reading.{maskSaid}
 use Rattle.record.specs.declared.WriteAnswer.the-variants.{Written}
-use Rattle.record.specs.Calls.{Writes}
+use Rattle.record.specs.Calls.{WriteCall}
 use Rattle.record.proofs.RoundTrip.{call-reads-back, call-reads-back-short, call-writes-back}
 use Rattle.circle_median.specs.declared.answers.ValueAnswer.{ValueAnswer}
 use Rattle.circle_median.specs.declared.answers.RecordAnswer.{RecordAnswer}
 use Rattle.circle_median.specs.Answers.{shapeOf, valueOf, recordOf, natural}
-use Rattle.circle_median.specs.Calls.{ExportedWrite, ExportedRead}
+use Rattle.circle_median.specs.Calls.{ExportedWriteCall, ExportedReadCall}
 use Rattle.circle_median.proofs.Numbers.{write-zero, read-zero}
 
 -- The writer answered 0 with the value n, and the reader is given exactly the first n bytes.
 module _ {s : Shape} {readings bytes : List ℕ} {w : ValueAnswer} {n : ℕ} {bytes′ buffer : List ℕ} {r : RecordAnswer} {buffer′ : List ℕ}
-    (wrote : ExportedWrite s readings bytes w bytes′) (zero : w .number ≡ 0) (value : w .value ≡ pos n)
-    (read : ExportedRead (take n bytes′) buffer r buffer′) where
-  written : Writes s readings bytes (Written n) bytes′
+    (wrote : ExportedWriteCall s readings bytes w bytes′) (zero : w .number ≡ 0) (value : w .value ≡ pos n)
+    (read : ExportedReadCall (take n bytes′) buffer r buffer′) where
+  written : WriteCall s readings bytes (Written n) bytes′
   written =
       let done = write-zero wrote zero in
       let n-is : recordLength s ≡ n = cc (done .1) in
@@ -33,7 +34,7 @@ module _ {s : Shape} {readings bytes : List ℕ} {w : ValueAnswer} {n : ℕ} {by
 
   -- with room for the readings it answers 0 and the same five numbers, and the buffer begins with the readings that were written; the
   -- rest of it is as it was
-  pub exported-reads-back : area s ≤ length buffer → (r ≡ recordOf (accepted s)) × (buffer′ ≡ readings ++ drop (area s) buffer)
+  pub exported-reads-back : area s ≤ length buffer → (r ≡ recordOf (accepted s)) × (buffer′ ≡ atFront readings buffer)
   exported-reads-back room = let back = call-reads-back written buffer (read .memory) room in (read .answer ∙ ap recordOf (back .0), back .1)
 
   -- with less room: 7 at 0, and the buffer is as it was
@@ -48,9 +49,9 @@ shapeTold r = shapeOf (r .cycle) (r .rows) (r .columns) (r .«mask_rows») (r .�
 -- says length 4, and the writer is given the five numbers and the readings that it told, with room for as many bytes as b has. It
 -- answers 0 with that number, and the bytes begin with b; the rest of them is as it was.
 pub exported-writes-back : {b buffer : List ℕ} {r : RecordAnswer} {buffer′ bytes : List ℕ} {w : ValueAnswer} {bytes′ : List ℕ}
-    → Bytes b → ExportedRead b buffer r buffer′ → r .number ≡ 0 → maskSaid b ≡ 4
-    → ExportedWrite (shapeTold r) (take (r .rows * r .columns) buffer′) bytes w bytes′ → length b ≤ length bytes
-    → (w ≡ valueOf (accepted (pos (length b)))) × (bytes′ ≡ b ++ drop (length b) bytes)
+    → Bytes b → ExportedReadCall b buffer r buffer′ → r .number ≡ 0 → maskSaid b ≡ 4
+    → ExportedWriteCall (shapeTold r) (take (r .rows * r .columns) buffer′) bytes w bytes′ → length b ≤ length bytes
+    → (w ≡ valueOf (accepted (pos (length b)))) × (bytes′ ≡ atFront b bytes)
 exported-writes-back {bytes = bytes} small read zero four wrote room =
     let done = read-zero read zero in
     let call = rw (done .1) at wrote in

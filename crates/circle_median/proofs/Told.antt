@@ -2,20 +2,28 @@
 use Prim.Native.Nat.{ℕ}
 use mathlib.Core.Path.{_≡_, ap, _∙_}
 use mathlib.Core.List.{List}
-use Rattle.refusal.specs.Outcome.{Outcome, leaves}
+use Rattle.refusal.specs.Outcome.{Outcome, after}
 use Rattle.shape.specs.declared.Shape.{Shape}
 use Rattle.filter.specs.declared.Engine.{Engine}
 use Rattle.filter.specs.declared.FilterAnswer.{FilterAnswer}
-use Rattle.filter.specs.Calls.{filterTold, filteredRows, zeroedWork, Call}
+use Rattle.filter.specs.Calls.{filterOutcome, filteredRows, zeroedWork, FilterCall}
+use Rattle.record.specs.Calls.{writeOutcome, WriteCall}
+use Rattle.record.specs.declared.WriteAnswer.{WriteAnswer}
 use Rattle.circle_median.specs.declared.answers.Answer.{Answer}
-use Rattle.circle_median.specs.Answers.{answerOf}
-use Rattle.circle_median.specs.Calls.{ExportedFilter}
+use Rattle.circle_median.specs.declared.answers.ValueAnswer.{ValueAnswer}
+use Rattle.circle_median.specs.Answers.{answerOf, valueOf, natural}
+use Rattle.circle_median.specs.Calls.{ExportedFilterCall, ExportedWriteCall}
 
 pub exported : {e : Engine} {s : Shape} {first end : ℕ} {image output work output₁ work₁ : List ℕ} {r : FilterAnswer} {a : Answer}
-    → Call e s first end image output work r output₁ work₁ → a ≡ answerOf (filterTold r)
-    → ExportedFilter e s first end image output work a output₁ work₁
+    → FilterCall e s first end image output work r output₁ work₁ → a ≡ answerOf (filterOutcome r)
+    → ExportedFilterCall e s first end image output work a output₁ work₁
 exported {e} {s} {first} {end} {image} {output} {work} call told = record {
   answer = told ∙ ap answerOf (call .answer);
-  output = call .output ∙ ap (λ (o : Outcome Unit). leaves o (filteredRows s first end image output) output) (call .answer);
-  work = call .work ∙ ap (λ (o : Outcome Unit). leaves o (zeroedWork e s work) work) (call .answer);
+  output = call .output ∙ ap (λ (o : Outcome Unit). after o (λ u. filteredRows s first end image output) output) (call .answer);
+  work = call .work ∙ ap (λ (o : Outcome Unit). after o (λ u. zeroedWork e s work) work) (call .answer);
 }
+
+pub exported-write : {s : Shape} {readings bytes bytes₁ : List ℕ} {r : WriteAnswer} {a : ValueAnswer}
+    → WriteCall s readings bytes r bytes₁ → a ≡ valueOf (natural (writeOutcome r))
+    → ExportedWriteCall s readings bytes a bytes₁
+exported-write call told = record { answer = told ∙ ap (λ (o : Outcome ℕ). valueOf (natural o)) (call .answer); memory = call .memory }

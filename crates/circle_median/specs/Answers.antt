@@ -1,10 +1,13 @@
 -- How the exported functions tell an outcome in plain numbers: "number 0 means accepted"; a refusal gives its number and its place,
 -- and 0 for everything else.
-use Prim.Native.Nat.{ℕ}
+use Prim.Native.Nat.{ℕ, _^_, _<_}
 use mathlib.Core.Bool.{Bool, cond}
 use lib.IntN.{ℤ, pos}
+use lib.Signed.{mag}
 use Rattle.refusal.specs.Outcome.{Outcome}
 use Rattle.refusal.specs.Outcome.Outcome.{accepted, refused}
+use Rattle.cycle.specs.declared.SignedAnswer.{SignedAnswer}
+use Rattle.cycle.specs.declared.SignedAnswer.the-variants.{Signed, Refused}
 use Rattle.shape.specs.declared.Shape.{Shape}
 use Rattle.circle_median.specs.declared.answers.Answer.{Answer}
 use Rattle.circle_median.specs.declared.answers.ValueAnswer.{ValueAnswer}
@@ -23,6 +26,11 @@ answerOf (refused n k) = record { number = n; place = k }
 abbrev pub valueOf : Outcome ℤ → ValueAnswer
 valueOf (accepted v) = record { number = 0; place = 0; value = v }
 valueOf (refused n k) = record { number = n; place = k; value = pos 0 }
+
+-- a value of 32 bits, as every step and every drift is; internal
+abbrev pub Narrow : SignedAnswer → Type 0
+Narrow (Signed v) = mag v < 2 ^ 31
+Narrow (Refused f) = Unit
 
 -- of the reader of records
 abbrev pub recordOf : Outcome Shape → RecordAnswer

@@ -3,30 +3,30 @@ use Prim.Native.Nat.{ℕ}
 use mathlib.Core.Path.{_≡_}
 use mathlib.Core.List.{List}
 use lib.ListN.{length}
-use Rattle.refusal.specs.Outcome.{leaves}
+use Rattle.lists.specs.Front.{atFront}
+use Rattle.refusal.specs.Outcome.{after}
 use Rattle.shape.specs.declared.Shape.{Shape}
 use Rattle.filter.specs.declared.Engine.{Engine}
-use Rattle.filter.specs.Calls.{filterCall, filteredRows, zeroedWork}
-use Rattle.record_format.specs.Record.{recordBytes, writeCall}
-use Rattle.record_format.specs.Reading.{imageIn, readCall}
-use Rattle.record.specs.Calls.{left}
+use Rattle.filter.specs.Calls.{filterDue, filteredRows, zeroedWork}
+use Rattle.record_format.specs.Record.{recordBytes, writeDue}
+use Rattle.record_format.specs.Reading.{imageIn, readDue}
 use Rattle.circle_median.specs.declared.answers.Answer.{Answer}
 use Rattle.circle_median.specs.declared.answers.ValueAnswer.{ValueAnswer}
 use Rattle.circle_median.specs.declared.answers.RecordAnswer.{RecordAnswer}
 use Rattle.circle_median.specs.Answers.{answerOf, valueOf, recordOf, natural}
 
 -- a filter: output and work before the call (₀) and after it (₁)
-pub record ExportedFilter (e : Engine) (s : Shape) (first end : ℕ) (image output₀ work₀ : List ℕ) (r : Answer) (output₁ work₁ : List ℕ) : Type 0 where
-  pub answer : r ≡ answerOf (filterCall e s first end image (length output₀) (length work₀))
-  pub output : output₁ ≡ leaves (filterCall e s first end image (length output₀) (length work₀)) (filteredRows s first end image output₀) output₀
-  pub work : work₁ ≡ leaves (filterCall e s first end image (length output₀) (length work₀)) (zeroedWork e s work₀) work₀
+pub record ExportedFilterCall (e : Engine) (s : Shape) (first end : ℕ) (image output₀ work₀ : List ℕ) (r : Answer) (output₁ work₁ : List ℕ) : Type 0 where
+  pub answer : r ≡ answerOf (filterDue e s first end image (length output₀) (length work₀))
+  pub output : output₁ ≡ after (filterDue e s first end image (length output₀) (length work₀)) (λ u. filteredRows s first end image output₀) output₀
+  pub work : work₁ ≡ after (filterDue e s first end image (length output₀) (length work₀)) (λ u. zeroedWork e s work₀) work₀
 
 -- the writer
-pub record ExportedWrite (s : Shape) (readings bytes₀ : List ℕ) (r : ValueAnswer) (bytes₁ : List ℕ) : Type 0 where
-  pub answer : r ≡ valueOf (natural (writeCall s readings (length bytes₀)))
-  pub memory : bytes₁ ≡ left (writeCall s readings (length bytes₀)) (recordBytes s readings) bytes₀
+pub record ExportedWriteCall (s : Shape) (readings bytes₀ : List ℕ) (r : ValueAnswer) (bytes₁ : List ℕ) : Type 0 where
+  pub answer : r ≡ valueOf (natural (writeDue s readings (length bytes₀)))
+  pub memory : bytes₁ ≡ after (writeDue s readings (length bytes₀)) (λ n. atFront (recordBytes s readings) bytes₀) bytes₀
 
 -- the reader
-pub record ExportedRead (bytes readings₀ : List ℕ) (r : RecordAnswer) (readings₁ : List ℕ) : Type 0 where
-  pub answer : r ≡ recordOf (readCall bytes (length readings₀))
-  pub memory : readings₁ ≡ left (readCall bytes (length readings₀)) (imageIn bytes) readings₀
+pub record ExportedReadCall (bytes readings₀ : List ℕ) (r : RecordAnswer) (readings₁ : List ℕ) : Type 0 where
+  pub answer : r ≡ recordOf (readDue bytes (length readings₀))
+  pub memory : readings₁ ≡ after (readDue bytes (length readings₀)) (λ s. atFront (imageIn bytes) readings₀) readings₀

@@ -1,12 +1,14 @@
 // The structs that C sees, and what the calls take and answer turned into theirs.
+use cycle::SignedAnswer;
 use filter::FilterAnswer;
 use refusal::Refusal;
 use shape::Shape;
 ghost use mathlib.Core.Path.{_≡_};
 ghost use Rattle.refusal.specs.Outcome.{refusal};
 ghost use Rattle.refusal.specs.Outcome.Outcome.{accepted};
-ghost use Rattle.filter.specs.Calls.{filterTold};
-ghost use Rattle.circle_median.specs.Answers.{shapeOf, answerOf, valueOf, recordOf};
+ghost use Rattle.cycle.specs.Calls.{signedOutcome};
+ghost use Rattle.filter.specs.Calls.{filterOutcome};
+ghost use Rattle.circle_median.specs.Answers.{shapeOf, answerOf, valueOf, Narrow, recordOf};
 
 // Number 0 means accepted; any other is a refusal's, with its place.
 #[repr(C)]
@@ -68,10 +70,21 @@ pub fn refused_value(f: Refusal) -> ValueAnswer
     }
 }
 
-pub fn filter_answer(told: FilterAnswer) -> Answer
-    ensures { λ r. ⌜ r ≡ answerOf (filterTold told) ⌝ }
+// Of a step or a drift.
+pub fn signed_answer(answer: SignedAnswer) -> ValueAnswer
+    requires { ⌜ Narrow answer ⌝ }
+    ensures { λ r. ⌜ r ≡ valueOf (signedOutcome answer) ⌝ }
 {
-    match told {
+    match answer {
+        SignedAnswer::Refused(f) => refused_value(f),
+        SignedAnswer::Signed(v) => value_answer(v as i64),
+    }
+}
+
+pub fn filter_answer(answer: FilterAnswer) -> Answer
+    ensures { λ r. ⌜ r ≡ answerOf (filterOutcome answer) ⌝ }
+{
+    match answer {
         FilterAnswer::Filtered => Answer {
             number: 0,
             place: 0,

@@ -10,18 +10,17 @@ use answers::record_answer;
 use answers::refused_record;
 use answers::refused_value;
 use answers::shape_of;
+use answers::signed_answer;
 use answers::value_answer;
 use cycle::DistanceAnswer;
-use cycle::DriftAnswer;
 use cycle::SlotAnswer;
-use cycle::StepAnswer;
 use record::ReadAnswer;
 use record::WriteAnswer;
 ghost use mathlib.Core.Path.{_≡_};
-ghost use Rattle.cycle.specs.Calls.{distanceCall, stepCall, slotCall, driftCall};
+ghost use Rattle.cycle.specs.Calls.{distanceDue, stepDue, slotDue, driftDue};
 ghost use Rattle.filter.specs.declared.Engine.the-variants.{Level, Reading};
 ghost use Rattle.circle_median.specs.Answers.{shapeOf, valueOf, natural, flag};
-ghost use Rattle.circle_median.specs.Calls.{ExportedFilter, ExportedWrite, ExportedRead};
+ghost use Rattle.circle_median.specs.Calls.{ExportedFilterCall, ExportedWriteCall, ExportedReadCall};
 
 // The level engine: cycles up to 4,096, and C·(N + 1) numbers of work memory.
 #[no_mangle]
@@ -37,7 +36,7 @@ pub extern "C" fn circle_median_level(
     output: &mut [u16],
     work: &mut [u32],
 ) -> Answer
-    ensures { λ r. ⌜ ExportedFilter Level (shapeOf cycle rows columns «mask_rows» «mask_columns») first end (now (input .entry)) (now (output .entry)) (now (work .entry)) r (now (output .exit)) (now (work .exit)) ⌝ }
+    ensures { λ r. ⌜ ExportedFilterCall Level (shapeOf cycle rows columns «mask_rows» «mask_columns») first end (now (input .entry)) (now (output .entry)) (now (work .entry)) r (now (output .exit)) (now (work .exit)) ⌝ }
 {
     let shape = shape_of(cycle, rows, columns, mask_rows, mask_columns);
     filter_answer(filter::level(shape, first, end, input, output, work))
@@ -57,7 +56,7 @@ pub extern "C" fn circle_median_reading(
     output: &mut [u16],
     work: &mut [u32],
 ) -> Answer
-    ensures { λ r. ⌜ ExportedFilter Reading (shapeOf cycle rows columns «mask_rows» «mask_columns») first end (now (input .entry)) (now (output .entry)) (now (work .entry)) r (now (output .exit)) (now (work .exit)) ⌝ }
+    ensures { λ r. ⌜ ExportedFilterCall Reading (shapeOf cycle rows columns «mask_rows» «mask_columns») first end (now (input .entry)) (now (output .entry)) (now (work .entry)) r (now (output .exit)) (now (work .exit)) ⌝ }
 {
     let shape = shape_of(cycle, rows, columns, mask_rows, mask_columns);
     filter_answer(filter::reading(shape, first, end, input, output, work))
@@ -66,7 +65,7 @@ pub extern "C" fn circle_median_reading(
 // The value is the distance of two ticks.
 #[no_mangle]
 pub extern "C" fn circle_median_distance(cycle: u32, a: u16, b: u16) -> ValueAnswer
-    ensures { λ r. ⌜ r ≡ valueOf (natural (distanceCall cycle a b)) ⌝ }
+    ensures { λ r. ⌜ r ≡ valueOf (natural (distanceDue cycle a b)) ⌝ }
 {
     match cycle::distance(cycle, a, b) {
         DistanceAnswer::Refused(f) => refused_value(f),
@@ -77,18 +76,15 @@ pub extern "C" fn circle_median_distance(cycle: u32, a: u16, b: u16) -> ValueAns
 // The value is the signed step from a to b.
 #[no_mangle]
 pub extern "C" fn circle_median_step(cycle: u32, a: u16, b: u16) -> ValueAnswer
-    ensures { λ r. ⌜ r ≡ valueOf (stepCall cycle a b) ⌝ }
+    ensures { λ r. ⌜ r ≡ valueOf (stepDue cycle a b) ⌝ }
 {
-    match cycle::step(cycle, a, b) {
-        StepAnswer::Refused(f) => refused_value(f),
-        StepAnswer::Step(s) => value_answer(s as i64),
-    }
+    signed_answer(cycle::step(cycle, a, b))
 }
 
 // The value is 1 if tick p is in the slot that starts at s and is w wide, and else 0.
 #[no_mangle]
 pub extern "C" fn circle_median_slot(cycle: u32, p: u16, s: u16, w: u16) -> ValueAnswer
-    ensures { λ r. ⌜ r ≡ valueOf (flag (slotCall cycle p s w)) ⌝ }
+    ensures { λ r. ⌜ r ≡ valueOf (flag (slotDue cycle p s w)) ⌝ }
 {
     match cycle::slot(cycle, p, s, w) {
         SlotAnswer::Refused(f) => refused_value(f),
@@ -100,12 +96,9 @@ pub extern "C" fn circle_median_slot(cycle: u32, p: u16, s: u16, w: u16) -> Valu
 // The value is the drift of a row.
 #[no_mangle]
 pub extern "C" fn circle_median_drift(cycle: u32, row: &[u16]) -> ValueAnswer
-    ensures { λ r. ⌜ r ≡ valueOf (driftCall cycle (now (row .entry))) ⌝ }
+    ensures { λ r. ⌜ r ≡ valueOf (driftDue cycle (now (row .entry))) ⌝ }
 {
-    match cycle::drift(cycle, row) {
-        DriftAnswer::Refused(f) => refused_value(f),
-        DriftAnswer::Drift(d) => value_answer(d as i64),
-    }
+    signed_answer(cycle::drift(cycle, row))
 }
 
 // Writes a record to the front of bytes; the value is its length.
@@ -119,7 +112,7 @@ pub extern "C" fn circle_median_write(
     readings: &[u16],
     bytes: &mut [u8],
 ) -> ValueAnswer
-    ensures { λ r. ⌜ ExportedWrite (shapeOf cycle rows columns «mask_rows» «mask_columns») (now (readings .entry)) (now (bytes .entry)) r (now (bytes .exit)) ⌝ }
+    ensures { λ r. ⌜ ExportedWriteCall (shapeOf cycle rows columns «mask_rows» «mask_columns») (now (readings .entry)) (now (bytes .entry)) r (now (bytes .exit)) ⌝ }
 {
     let shape = shape_of(cycle, rows, columns, mask_rows, mask_columns);
     match record::write(shape, readings, bytes) {
@@ -131,7 +124,7 @@ pub extern "C" fn circle_median_write(
 // Reads a record; its readings stand at the front of the buffer.
 #[no_mangle]
 pub extern "C" fn circle_median_read(bytes: &[u8], readings: &mut [u16]) -> RecordAnswer
-    ensures { λ r. ⌜ ExportedRead (now (bytes .entry)) (now (readings .entry)) r (now (readings .exit)) ⌝ }
+    ensures { λ r. ⌜ ExportedReadCall (now (bytes .entry)) (now (readings .entry)) r (now (readings .exit)) ⌝ }
 {
     match record::read(bytes, readings) {
         ReadAnswer::Refused(f) => refused_record(f),

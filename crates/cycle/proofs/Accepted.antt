@@ -1,7 +1,7 @@
 -- What it says of the arguments that the tests of a call are clear. Assumes nothing.
 use Prim.Native.Nat.{ℕ, _≤_, _<_}
 use mathlib.Core.Path.{_≡_}
-use mathlib.Core.List.{List}
+use mathlib.Core.List.{List, [], _∷_}
 use native.Mathlib.Omega.{arith}
 use borrow.Author.Tests.{ltb-true, ltb-false, le-ltb, eqb-false, ne-eqb, not-false}
 use lib.ListN.{length, getD}
@@ -9,8 +9,9 @@ use Rattle.lists.specs.First.{firstBad}
 use Rattle.lists.proofs.First.{before-first}
 use Rattle.refusal.specs.Limits.{longestCycle, mostColumns}
 use Rattle.refusal.specs.Outcome.{Clear}
+use Rattle.refusal.proofs.Outcome.{clear-split}
 use Rattle.cycle.specs.Distance.{isReading}
-use Rattle.cycle.specs.Calls.{pairRules, rowRules}
+use Rattle.cycle.specs.Calls.{pairRules, tickRule, slotRules, rowRules}
 
 pub record Pair (c a b : ℕ) : Type 0 where
   pub cycle-some : 0 < c
@@ -28,15 +29,19 @@ pair-clear c a b clear =
       second = ltb-true b c (not-false _ (clear .1 .1 .1 .0));
     }
 
-pub record Row (c : ℕ) (row : List ℕ) : Type 0 where
+-- of slot, what its first two tests on ticks say
+pub slot-clear : (c p s w : ℕ) → Clear (slotRules c p s w) → Pair c p s
+slot-clear c p s w clear = pair-clear c p s (clear-split (pairRules c p s) (tickRule c w 2 ∷ []) clear .0)
+
+pub record DriftRow (c : ℕ) (row : List ℕ) : Type 0 where
   pub cycle-some : 0 < c
   pub cycle-fits : c ≤ longestCycle
   pub some : 0 < length row
   pub short : length row ≤ mostColumns
   pub good : length row ≤ firstBad (isReading c) row
 
-pub row-clear : (c : ℕ) (row : List ℕ) → Clear (rowRules c row) → Row c row
-row-clear c row clear =
+pub drift-clear : (c : ℕ) (row : List ℕ) → Clear (rowRules c row) → DriftRow c row
+drift-clear c row clear =
     let cycle : (c ≡ 0 → ⊥) = eqb-false c 0 (clear .0) in
     let some : (length row ≡ 0 → ⊥) = eqb-false (length row) 0 (clear .1 .1 .0) in
     record {
@@ -47,8 +52,8 @@ row-clear c row clear =
       good = ltb-false (firstBad (isReading c) row) (length row) (clear .1 .1 .1 .1 .0);
     }
 
-pub clear-row : (c : ℕ) (row : List ℕ) → Row c row → Clear (rowRules c row)
-clear-row c row r = (
+pub clear-drift : (c : ℕ) (row : List ℕ) → DriftRow c row → Clear (rowRules c row)
+clear-drift c row r = (
   ne-eqb c 0 (λ e. omega (arith, r .cycle-some)),
   (
     le-ltb longestCycle c (r .cycle-fits),

@@ -5,9 +5,9 @@ use mathlib.Core.List.{List}
 use borrow.Author.Needs.{needs}
 use Rattle.refusal.specs.Outcome.{Rising, Numbered}
 use Rattle.refusal.specs.Outcome.Outcome.{refused}
-use Rattle.refusal.proofs.Order.{Least, least-told}
+use Rattle.refusal.proofs.Order.{LowestDue, least-told}
 use Rattle.cycle.specs.Step.{drift}
-use Rattle.cycle.specs.Calls.{pairRules, slotRules, rowRules, driftCall}
+use Rattle.cycle.specs.Calls.{pairRules, slotRules, rowRules, driftDue}
 
 module _ (c a b : ℕ) where
   pub pair-rising : Rising (pairRules c a b)
@@ -31,6 +31,6 @@ module _ (c : ℕ) (row : List ℕ) where
   row-numbered = search needs
 
   -- what it says of a refusal of drift: no rule that is due has a lower number
-  pub drift-least : {n k : ℕ} → driftCall c row ≡ refused n k → Least n (rowRules c row)
-  unfolding driftCall
+  pub drift-least : {n k : ℕ} → driftDue c row ≡ refused n k → LowestDue n (rowRules c row)
+  unfolding driftDue
   drift-least = least-told (drift c row) (rowRules c row) drift-rising

@@ -16,8 +16,8 @@ use Rattle.refusal.specs.Outcome.Outcome.{accepted}
 use Rattle.refusal.proofs.Outcome.{accepted-clear, accepted-value}
 use Rattle.cycle.specs.Distance.{isReading}
 use Rattle.cycle.specs.Step.{step, drift}
-use Rattle.cycle.specs.Calls.{pairRules, rowRules, stepCall, driftCall}
-use Rattle.cycle.proofs.Accepted.{pair-clear, row-clear}
+use Rattle.cycle.specs.Calls.{pairRules, rowRules, stepDue, driftDue}
+use Rattle.cycle.proofs.Accepted.{pair-clear, drift-clear}
 use Rattle.cycle.proofs.DistanceLaws.{distance-half}
 use Rattle.cycle.proofs.SignedLaws.{sub-size, mag-size}
 use Rattle.cycle.proofs.StepLaws.{step-size}
@@ -40,7 +40,7 @@ drift-size {c} fits (a ∷ (b ∷ row)) e =
 
 pub drift-fits : (c : ℕ) (row : List ℕ) → Clear (rowRules c row) → mag (drift c row) < 2 ^ 31
 drift-fits c row clear =
-    let r = row-clear c row clear in
+    let r = drift-clear c row clear in
     omega (arith, mag-size (drift c row), drift-size (r .cycle-fits) row (all-good (isReading c) row (r .good)), r .short)
 
 step-fits : (c a b : ℕ) → Clear (pairRules c a b) → mag (step c a b) < 2 ^ 31
@@ -49,14 +49,14 @@ step-fits c a b clear =
     omega (arith, mag-size (step c a b), step-size c a b (p .first) (p .second), distance-half c a b (p .first) (p .second), p .cycle-fits)
 
 -- the same of what the calls were answered
-pub step-told : (c a b : ℕ) {v : ℤ} → accepted v ≡ stepCall c a b → mag v < 2 ^ 31
-unfolding stepCall
+pub step-told : (c a b : ℕ) {v : ℤ} → accepted v ≡ stepDue c a b → mag v < 2 ^ 31
+unfolding stepDue
 step-told c a b {v} said =
     rw (accepted-value (step c a b) (pairRules c a b) v (sym said))
     (step-fits c a b (accepted-clear (step c a b) (pairRules c a b) v (sym said)))
 
-pub drift-told : (c : ℕ) (row : List ℕ) {v : ℤ} → accepted v ≡ driftCall c row → mag v < 2 ^ 31
-unfolding driftCall
+pub drift-told : (c : ℕ) (row : List ℕ) {v : ℤ} → accepted v ≡ driftDue c row → mag v < 2 ^ 31
+unfolding driftDue
 drift-told c row {v} said =
     rw (accepted-value (drift c row) (rowRules c row) v (sym said))
     (drift-fits c row (accepted-clear (drift c row) (rowRules c row) v (sym said)))

@@ -9,7 +9,7 @@ use borrow.Author.Tests.{le-leb, lt-leb, lt-ltb}
 use lib.IntN.{pos, negℤ, natAbs, _+ℤ_, _-ℤ_, +ℤ-assoc, +ℤ-negℤ-cancel}
 use Rattle.cycle.specs.Distance.{distance}
 use Rattle.cycle.specs.Step.{ahead, isForward, stepOf, step}
-use Rattle.cycle.proofs.Ways.{Way, Ahead, ahead-way, distance-way}
+use Rattle.cycle.proofs.Ways.{Way, WayAhead, ahead-way, distance-way}
 use Rattle.cycle.proofs.Ways.Way.{straight, round}
 
 pub forward-yes : (c e : ℕ) → 2 * e ≤ c → isForward c e ≡ true
@@ -29,7 +29,7 @@ pub step-size : (c a b : ℕ) → a < c → b < c → natAbs (step c a b) ≡ di
 unfolding step stepOf
 step-size c a b h g = go (decLe (2 * ahead c a b) c)
   where
-    r : Ahead c a b (ahead c a b)
+    r : WayAhead c a b (ahead c a b)
     r = ahead-way c a b h g
 
     d : distance c a b ≡ min (ahead c a b) (c - ahead c a b)

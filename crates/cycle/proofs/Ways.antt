@@ -72,7 +72,7 @@ last-way c k h = go (decLt 0 k)
     go (no q) = (c - 1, omega arith, round (omega arith))
 
 -- `ahead` is the way, less than a cycle
-pub record Ahead (c a b e : ℕ) : Type 0 where
+pub record WayAhead (c a b e : ℕ) : Type 0 where
   pub less : e < c
   pub way : Way c a b e
 
@@ -82,11 +82,11 @@ mod-low c x y h e = ap (λ (z : ℕ). z % c) e ∙ mod-eq-of-lt h
 pub mod-high : (c x y : ℕ) → x < c → y ≡ x + c → y % c ≡ x
 mod-high c x y h e = ap (λ (z : ℕ). z % c) e ∙ add-mod-right x c ∙ mod-eq-of-lt h
 
-pub ahead-way : (c a b : ℕ) → a < c → b < c → Ahead c a b (ahead c a b)
+pub ahead-way : (c a b : ℕ) → a < c → b < c → WayAhead c a b (ahead c a b)
 unfolding ahead
 ahead-way c a b h g = go (decLe a b)
   where
-    go : Dec (a ≤ b) → Ahead c a b (ahead c a b)
+    go : Dec (a ≤ b) → WayAhead c a b (ahead c a b)
     go (yes l) =
         let e : (b + (c - a)) % c ≡ b - a = mod-high c (b - a) (b + (c - a)) (omega arith) (omega arith) in
         record { less = omega arith; way = straight (omega arith) }

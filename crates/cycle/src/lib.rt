@@ -11,21 +11,22 @@ use ticks::drift_of;
 pub use ticks::least;
 pub use ticks::less;
 use ticks::signed_step;
-pub use ticks::size;
 pub use verdicts::cycle_verdict;
 use verdicts::pair_verdict;
 pub use verdicts::reading_verdict;
 use verdicts::row_verdict;
+use verdicts::slot_verdict;
 ghost use mathlib.Core.Path.{_≡_};
-ghost use Rattle.cycle.specs.Calls.{distanceCall, distanceTold, stepCall, stepTold, slotCall, slotTold, driftCall, driftTold};
+ghost use Rattle.cycle.specs.Calls.{distanceDue, distanceOutcome, stepDue, slotDue, slotOutcome, driftDue, signedOutcome};
 
 pub enum DistanceAnswer {
     Distance(u16),
     Refused(Refusal),
 }
 
-pub enum StepAnswer {
-    Step(i32),
+// A step or a drift.
+pub enum SignedAnswer {
+    Signed(i32),
     Refused(Refusal),
 }
 
@@ -35,14 +36,9 @@ pub enum SlotAnswer {
     Refused(Refusal),
 }
 
-pub enum DriftAnswer {
-    Drift(i32),
-    Refused(Refusal),
-}
-
 // The distance of two ticks.
 pub fn distance(cycle: u32, a: u16, b: u16) -> DistanceAnswer
-    ensures { λ r. ⌜ distanceTold r ≡ distanceCall cycle a b ⌝ }
+    ensures { λ r. ⌜ distanceOutcome r ≡ distanceDue cycle a b ⌝ }
 {
     match pair_verdict(cycle, a, b) {
         Verdict::Refused(f) => DistanceAnswer::Refused(f),
@@ -51,25 +47,22 @@ pub fn distance(cycle: u32, a: u16, b: u16) -> DistanceAnswer
 }
 
 // The signed step from a to b.
-pub fn step(cycle: u32, a: u16, b: u16) -> StepAnswer
-    ensures { λ r. ⌜ stepTold r ≡ stepCall cycle a b ⌝ }
+pub fn step(cycle: u32, a: u16, b: u16) -> SignedAnswer
+    ensures { λ r. ⌜ signedOutcome r ≡ stepDue cycle a b ⌝ }
 {
     match pair_verdict(cycle, a, b) {
-        Verdict::Refused(f) => StepAnswer::Refused(f),
-        Verdict::Passed => StepAnswer::Step(signed_step(cycle, a as u32, b as u32)),
+        Verdict::Refused(f) => SignedAnswer::Refused(f),
+        Verdict::Passed => SignedAnswer::Signed(signed_step(cycle, a as u32, b as u32)),
     }
 }
 
 // Whether tick p is in the slot that starts at s and is w wide.
 pub fn slot(cycle: u32, p: u16, s: u16, w: u16) -> SlotAnswer
-    ensures { λ r. ⌜ slotTold r ≡ slotCall cycle p s w ⌝ }
+    ensures { λ r. ⌜ slotOutcome r ≡ slotDue cycle p s w ⌝ }
 {
-    match pair_verdict(cycle, p, s) {
+    match slot_verdict(cycle, p, s, w) {
         Verdict::Refused(f) => SlotAnswer::Refused(f),
         Verdict::Passed => {
-            if cycle <= w as u32 {
-                return SlotAnswer::Refused(Refusal::Reading(2));
-            }
             if ahead_of(cycle, s as u32, p as u32) <= w as u32 {
                 SlotAnswer::Inside
             } else {
@@ -80,11 +73,11 @@ pub fn slot(cycle: u32, p: u16, s: u16, w: u16) -> SlotAnswer
 }
 
 // The drift of a row: the sum of the steps between neighbours.
-pub fn drift(cycle: u32, row: &[u16]) -> DriftAnswer
-    ensures { λ r. ⌜ driftTold r ≡ driftCall cycle (now (row .entry)) ⌝ }
+pub fn drift(cycle: u32, row: &[u16]) -> SignedAnswer
+    ensures { λ r. ⌜ signedOutcome r ≡ driftDue cycle (now (row .entry)) ⌝ }
 {
     match row_verdict(cycle, row) {
-        Verdict::Refused(f) => DriftAnswer::Refused(f),
-        Verdict::Passed => DriftAnswer::Drift(drift_of(cycle, row)),
+        Verdict::Refused(f) => SignedAnswer::Refused(f),
+        Verdict::Passed => SignedAnswer::Signed(drift_of(cycle, row)),
     }
 }

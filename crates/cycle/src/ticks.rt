@@ -2,7 +2,7 @@
 ghost use mathlib.Core.Path.{_≡_};
 ghost use mathlib.Core.Bool.{cond};
 ghost use Prim.Native.Nat.{_-_, _^_, _≤_, _<_, min};
-ghost use lib.IntN.{pos, natAbs, _-ℤ_};
+ghost use lib.IntN.{pos, _-ℤ_};
 ghost use lib.ListN.{length};
 ghost use Rattle.lists.specs.First.{firstBad};
 ghost use Rattle.refusal.specs.Limits.{mostColumns};
@@ -53,16 +53,6 @@ fn signed(up: u32, back: u32) -> i32
     ensures { λ r. ⌜ r ≡ pos up -ℤ pos back ⌝ }
 {
     up as i32 - back as i32
-}
-
-// The size of a step or a drift, without its sign.
-pub fn size(n: i32) -> u32
-    ensures { λ r. ⌜ r ≡ natAbs n ⌝ }
-{
-    if n < 0 {
-        return (-1 - n) as u32 + 1;
-    }
-    n as u32
 }
 
 // The signed step from a to b.

@@ -1,27 +1,32 @@
 // The tests of the calls, in groups that calls share: each answers the first refusal that is due.
 use refusal::Refusal;
 use refusal::Verdict;
+use refusal::first_of;
 use refusal::limits::LONGEST_CYCLE;
 use refusal::limits::MOST_COLUMNS;
+use refusal::range_verdict;
 ghost use mathlib.Core.Path.{_≡_};
-ghost use mathlib.Core.List.{[], _∷_, _++_};
+ghost use mathlib.Core.List.{[], _∷_};
 ghost use Prim.Native.Nat.{ℕ, _≤_, _<_};
-ghost use lib.Dec.{ltb};
 ghost use lib.ListN.{length, getD};
 ghost use Rattle.lists.specs.First.{firstBad};
-ghost use Rattle.refusal.specs.Outcome.{rule, firstDue, verdict};
+ghost use Rattle.refusal.specs.Outcome.{firstDue, verdict};
 ghost use Rattle.cycle.specs.Distance.{isReading};
-ghost use Rattle.cycle.specs.Calls.{cycleRules, pairRules, readingRule, lengthRules, rowRules};
+ghost use Rattle.cycle.specs.Calls.{cycleRules, tickRule, pairRules, slotRules, readingRule, rowRules};
 
 // Test 1, for a call that takes cycles up to a limit.
 pub fn cycle_verdict(limit: u32, cycle: u32) -> Verdict
     ensures { λ r. ⌜ verdict r ≡ firstDue (cycleRules limit cycle) tt ⌝ }
 {
-    if cycle == 0 {
-        return Verdict::Refused(Refusal::Cycle);
-    }
-    if limit < cycle {
-        return Verdict::Refused(Refusal::Cycle);
+    range_verdict(cycle as usize, limit as usize, Refusal::Cycle)
+}
+
+// Test 9 on an argument, which has a place.
+fn tick_verdict(cycle: u32, x: u16, place: usize) -> Verdict
+    ensures { λ r. ⌜ verdict r ≡ firstDue (tickRule cycle x place ∷ []) tt ⌝ }
+{
+    if cycle <= x as u32 {
+        return Verdict::Refused(Refusal::Reading(place));
     }
     Verdict::Passed
 }
@@ -81,47 +86,26 @@ fn first_bad(cycle: u32, readings: &[u16]) -> usize
     search(cycle, readings)
 }
 
-// The tests of distance and step, and the first ones of slot.
+// The tests of distance and step.
 pub fn pair_verdict(cycle: u32, a: u16, b: u16) -> Verdict
     ensures { λ r. ⌜ verdict r ≡ firstDue (pairRules cycle a b) tt ⌝ }
 {
-    match cycle_verdict(LONGEST_CYCLE, cycle) {
-        Verdict::Refused(f) => Verdict::Refused(f),
-        Verdict::Passed => {
-            if cycle <= a as u32 {
-                return Verdict::Refused(Refusal::Reading(0));
-            }
-            if cycle <= b as u32 {
-                return Verdict::Refused(Refusal::Reading(1));
-            }
-            Verdict::Passed
-        }
-    }
+    let ticks = first_of(tick_verdict(cycle, a, 0), tick_verdict(cycle, b, 1));
+    first_of(cycle_verdict(LONGEST_CYCLE, cycle), ticks)
 }
 
-// Tests 2 and 9 of a row of n readings, of which the first k are good.
-fn readings_verdict(n: usize, k: usize) -> Verdict
-    ensures { λ r. ⌜ verdict r ≡ firstDue (lengthRules n ++ (rule (ltb k n) 9 k ∷ [])) tt ⌝ }
+// The tests of slot.
+pub fn slot_verdict(cycle: u32, p: u16, s: u16, w: u16) -> Verdict
+    ensures { λ r. ⌜ verdict r ≡ firstDue (slotRules cycle p s w) tt ⌝ }
 {
-    let most = MOST_COLUMNS as usize;
-    if n == 0 {
-        return Verdict::Refused(Refusal::Size);
-    }
-    if most < n {
-        return Verdict::Refused(Refusal::Size);
-    }
-    if k < n {
-        return Verdict::Refused(Refusal::Reading(k));
-    }
-    Verdict::Passed
+    first_of(pair_verdict(cycle, p, s), tick_verdict(cycle, w, 2))
 }
 
 // The tests of drift.
 pub fn row_verdict(cycle: u32, row: &[u16]) -> Verdict
     ensures { λ r. ⌜ verdict r ≡ firstDue (rowRules cycle (now (row .entry))) tt ⌝ }
 {
-    match cycle_verdict(LONGEST_CYCLE, cycle) {
-        Verdict::Refused(f) => Verdict::Refused(f),
-        Verdict::Passed => readings_verdict(row.len(), first_bad(cycle, row)),
-    }
+    let size = range_verdict(row.len(), MOST_COLUMNS as usize, Refusal::Size);
+    let row = first_of(size, reading_verdict(cycle, row));
+    first_of(cycle_verdict(LONGEST_CYCLE, cycle), row)
 }

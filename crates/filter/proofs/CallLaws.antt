@@ -1,21 +1,19 @@
 -- Laws of a filter call: what acceptance says, and the work memory that it leaves. Assumes nothing.
-use Prim.Native.Nat.{ℕ, _+_, _*_, _^_, _≤_, _<_}
+use Prim.Native.Nat.{ℕ, _+_, _≤_, _<_}
 use mathlib.Core.Path.{_≡_, ap, sym, _∙_}
 use mathlib.Core.List.{List, _++_}
 use native.Mathlib.Omega.{arith}
 use native.Mathlib.Decide.{decLt}
-use native.Mathlib.Nat.{mul-le-mul, zero-add}
+use native.Mathlib.Nat.{zero-add}
 use borrow.Author.Tests.{le-ltb, eq-eqb, ltb-false, eqb-true, not-false}
 use lib.ListN.{length, getD}
 use lib.Seq.{ext-getD}
 use Rattle.lists.specs.First.{firstBad}
 use Rattle.lists.specs.Tabulate.{written}
 use Rattle.lists.proofs.Written.{length-written, written-inside, written-after}
-use Rattle.refusal.specs.declared.Refusal.{Refusal}
-use Rattle.refusal.specs.declared.Verdict.{Verdict}
-use Rattle.refusal.specs.Outcome.{Rule, firstDue, Clear, verdict}
+use Rattle.refusal.specs.Outcome.{Rule, firstDue, Clear}
 use Rattle.refusal.specs.Outcome.Outcome.{accepted}
-use Rattle.refusal.proofs.Outcome.{after-same, accepted-clear, clear-split, passed-on, refused-before}
+use Rattle.refusal.proofs.Outcome.{after-same, accepted-clear, clear-split}
 use Rattle.refusal.specs.Limits.{longestCycle}
 use Rattle.cycle.specs.Distance.{isReading}
 use Rattle.shape.specs.Rules.{shapeRules, area}
@@ -26,13 +24,7 @@ use Rattle.window.specs.Ready.{Ready}
 use Rattle.refusal.specs.declared.Verdict.the-variants as verdicts
 use Rattle.filter.specs.declared.Engine.{Engine}
 use Rattle.filter.specs.declared.Engine.the-variants.{Level, Reading}
-use Rattle.filter.specs.Calls.{limit, need, memoryRules, imageRules, roomCall, filterCall}
-
--- a product of two numbers of 32 bits fits 64
-pub product-fits : (a b : ℕ) → a < 2 ^ 32 → b < 2 ^ 32 + 1 → a * b < 2 ^ 64
-product-fits a b h g =
-    let p : a * b ≤ 4294967295 * 4294967296 = mul-le-mul {n₁ = a} {m₁ = b} {n₂ = 4294967295} {m₂ = 4294967296} (omega arith) (omega arith) in
-    omega arith
+use Rattle.filter.specs.Calls.{limit, need, memoryRules, imageRules, roomDue, filterDue}
 
 -- tests 5 to 9 are clear
 pub record Image (s : Shape) (need first end : ℕ) (image : List ℕ) (output work : ℕ) : Type 0 where
@@ -70,7 +62,7 @@ zeroed {w} {w′} {need} w₀ room len beyond x =
         ∙ sym (written-inside (λ k. 0) 0 need w₀ (omega arith) room 0 k (omega arith) h)
     at k (no h) = x .after k (omega arith) ∙ beyond k (omega arith) ∙ sym (written-after (λ k. 0) 0 need w₀ (omega arith) room 0 k (omega arith))
 
--- How the tests of a call come out, from the verdicts of its two groups.
+-- What it says that a call is accepted, and of which tests a good image need not fear.
 module _ (e : Engine) (s : Shape) (first end : ℕ) (image : List ℕ) (output work : ℕ) where
   abbrev shape-tests : List Rule
   shape-tests = shapeRules (limit e) s
@@ -78,31 +70,21 @@ module _ (e : Engine) (s : Shape) (first end : ℕ) (image : List ℕ) (output w
   abbrev image-tests : List Rule
   image-tests = imageRules s (need e s) first end image output work
 
-  pub shape-refused : {r : Verdict} {f : Refusal} → verdict r ≡ firstDue shape-tests tt → r ≡ verdicts.Refused f
-      → verdict (verdicts.Refused f) ≡ filterCall e s first end image output work
-  unfolding filterCall
-  shape-refused said is = sym (refused-before shape-tests said tt image-tests is)
-
-  pub shape-passed : {r : Verdict} (v : Verdict) → verdict r ≡ firstDue shape-tests tt → r ≡ verdicts.Passed → verdict v ≡ firstDue image-tests tt
-      → verdict v ≡ filterCall e s first end image output work
-  unfolding filterCall
-  shape-passed v said is then = then ∙ sym (passed-on shape-tests said tt image-tests is)
-
   -- every test is clear where the call is accepted
-  pub tests-clear : filterCall e s first end image output work ≡ accepted tt → Clear shape-tests × Clear image-tests
-  unfolding filterCall
+  pub tests-clear : filterDue e s first end image output work ≡ accepted tt → Clear shape-tests × Clear image-tests
+  unfolding filterDue
   tests-clear said = clear-split shape-tests image-tests (accepted-clear tt (shape-tests ++ image-tests) tt said)
 
-  pub call-tested : filterCall e s first end image output work ≡ accepted tt → Image s (need e s) first end image output work
+  pub call-tested : filterDue e s first end image output work ≡ accepted tt → Image s (need e s) first end image output work
   call-tested said = image-clear s (need e s) first end image output work (tests-clear said .1)
 
-  pub call-ready : filterCall e s first end image output work ≡ accepted tt → Ready (limit e) s image
+  pub call-ready : filterDue e s first end image output work ≡ accepted tt → Ready (limit e) s image
   call-ready said = image-ready (tests-clear said .0) (call-tested said)
 
   -- an image that is good, with a range of its rows, is refused only for its shape and for the memory
   pub good-image : first ≤ end → end ≤ s .rows → length image ≡ area s → length image ≤ firstBad (isReading (s .cycle)) image
-      → filterCall e s first end image output work ≡ roomCall e s output work
-  unfolding filterCall roomCall firstDue
+      → filterDue e s first end image output work ≡ roomDue e s output work
+  unfolding filterDue roomDue firstDue
   good-image order within size good =
       after-same tt shape-tests image-tests (memoryRules (area s) (need e s) output work)
       (rw (le-ltb end first order, le-ltb (s .rows) end within, eq-eqb (length image) (area s) size, le-ltb (firstBad (isReading (s .cycle)) image) (length image) good))

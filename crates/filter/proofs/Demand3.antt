@@ -17,12 +17,12 @@ use Rattle.window.proofs.Phase.{phase-at, phase-closest, phase-equal}
 use Rattle.filter.specs.declared.Engine.{Engine}
 use Rattle.filter.specs.declared.Engine.the-variants.{Level, Reading}
 use Rattle.filter.specs.declared.FilterAnswer.the-variants.{Filtered}
-use Rattle.filter.specs.Calls.{need, Call, SameRows}
+use Rattle.filter.specs.Calls.{need, FilterCall, SameRows}
 use Rattle.filter.proofs.CallLaws.{Image, call-tested, call-ready, limit-fits}
 
 -- an accepted call of an engine, and a spot of its rows
 module _ {e : Engine} {s : Shape} {first end : ℕ} {image output work output₁ work₁ : List ℕ}
-    (call : Call e s first end image output work Filtered output₁ work₁) (i j : ℕ) (from : first ≤ i) (upto : i < end) (column : j < s .columns) where
+    (call : FilterCall e s first end image output work Filtered output₁ work₁) (i j : ℕ) (from : first ≤ i) (upto : i < end) (column : j < s .columns) where
   tested : Image s (need e s) first end image (length output) (length work)
   tested = call-tested e s first end image (length output) (length work) (sym (call .answer))
 
@@ -52,7 +52,7 @@ module _ {e : Engine} {s : Shape} {first end : ℕ} {image output work output₁
 -- "for every cycle, image, mask and row range that both engines accept, whatever output and work memory held before, both write the
 -- same rows": the two calls may be lent memory of any contents and of any lengths, each its own
 pub same-rows : {s : Shape} {first end : ℕ} {image output work output₁ work₁ other room other₁ room₁ : List ℕ}
-    → Call Level s first end image output work Filtered output₁ work₁
-    → Call Reading s first end image other room Filtered other₁ room₁
+    → FilterCall Level s first end image output work Filtered output₁ work₁
+    → FilterCall Reading s first end image other room Filtered other₁ room₁
     → SameRows s first end output₁ other₁
 same-rows level reading i j from upto column = spot-filtered level i j from upto column ∙ sym (spot-filtered reading i j from upto column)

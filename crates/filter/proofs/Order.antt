@@ -5,10 +5,10 @@ use mathlib.Core.List.{List}
 use borrow.Author.Needs.{needs}
 use Rattle.refusal.specs.Outcome.{Rising, Numbered}
 use Rattle.refusal.specs.Outcome.Outcome.{refused}
-use Rattle.refusal.proofs.Order.{Least, least-told}
+use Rattle.refusal.proofs.Order.{LowestDue, least-told}
 use Rattle.shape.specs.declared.Shape.{Shape}
 use Rattle.filter.specs.declared.Engine.{Engine}
-use Rattle.filter.specs.Calls.{filterRules, filterCall}
+use Rattle.filter.specs.Calls.{filterRules, filterDue}
 
 module _ (e : Engine) (s : Shape) (first end : ℕ) (image : List ℕ) (output work : ℕ) where
   pub filter-rising : Rising (filterRules e s first end image output work)
@@ -18,6 +18,6 @@ module _ (e : Engine) (s : Shape) (first end : ℕ) (image : List ℕ) (output w
   filter-numbered = search needs
 
   -- what it says of a refusal of a filter: no rule that is due has a lower number
-  pub filter-least : {n k : ℕ} → filterCall e s first end image output work ≡ refused n k → Least n (filterRules e s first end image output work)
-  unfolding filterCall
+  pub filter-least : {n k : ℕ} → filterDue e s first end image output work ≡ refused n k → LowestDue n (filterRules e s first end image output work)
+  unfolding filterDue
   filter-least = least-told tt (filterRules e s first end image output work) filter-rising

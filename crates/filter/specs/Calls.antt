@@ -6,9 +6,10 @@ use mathlib.Core.List.{List, [], _∷_, _++_}
 use lib.ListN.{length, getD}
 use Rattle.lists.specs.Tabulate.{written}
 use Rattle.refusal.specs.Limits.{longestCycle, levelCycle}
-use Rattle.refusal.specs.Outcome.{Outcome, Rule, firstDue, refusal, leaves}
+use Rattle.refusal.specs.Outcome.{Outcome, Rule, firstDue, refusal, after}
 use Rattle.refusal.specs.Outcome.Outcome.{accepted}
 use Rattle.cycle.specs.Calls.{readingRule}
+use Rattle.shape.specs.Need.{levelNeed, readingNeed}
 use Rattle.shape.specs.Rules.{shapeRules, area, rowsRules, inputRule, bufferRule, workRule}
 use Rattle.shape.specs.declared.Shape.{Shape}
 use Rattle.window.specs.Phase.{phaseAt}
@@ -22,10 +23,10 @@ abbrev pub limit : Engine → ℕ
 limit Level = levelCycle
 limit Reading = longestCycle
 
--- the numbers of work memory: C·(N + 1) of the level engine, R·T·(N + 1) of the reading engine
+-- the numbers of work memory
 abbrev pub need : Engine → Shape → ℕ
-need Level s = s .cycle * (s .columns + 1)
-need Reading s = s .«mask_rows» * s .«mask_columns» * (s .columns + 1)
+need Level = levelNeed
+need Reading = readingNeed
 
 -- 7 and 8, where so many numbers of output and of work memory are needed
 abbrev pub memoryRules : ℕ → ℕ → ℕ → ℕ → List Rule
@@ -40,19 +41,19 @@ imageRules s room first end image output work =
 abbrev pub filterRules : Engine → Shape → ℕ → ℕ → List ℕ → ℕ → ℕ → List Rule
 filterRules e s first end image output work = shapeRules (limit e) s ++ imageRules s (need e s) first end image output work
 
-unfoldable pub filterCall : Engine → Shape → ℕ → ℕ → List ℕ → ℕ → ℕ → Outcome Unit
-filterCall e s first end image output work = firstDue (filterRules e s first end image output work) tt
+unfoldable pub filterDue : Engine → Shape → ℕ → ℕ → List ℕ → ℕ → ℕ → Outcome Unit
+filterDue e s first end image output work = firstDue (filterRules e s first end image output work) tt
 
 -- those of them that do not look at the readings and at the range: whether a good image of that shape is filtered
 abbrev pub roomRules : Engine → Shape → ℕ → ℕ → List Rule
 roomRules e s output work = shapeRules (limit e) s ++ memoryRules (area s) (need e s) output work
 
-unfoldable pub roomCall : Engine → Shape → ℕ → ℕ → Outcome Unit
-roomCall e s output work = firstDue (roomRules e s output work) tt
+unfoldable pub roomDue : Engine → Shape → ℕ → ℕ → Outcome Unit
+roomDue e s output work = firstDue (roomRules e s output work) tt
 
-abbrev pub filterTold : FilterAnswer → Outcome Unit
-filterTold Filtered = accepted tt
-filterTold (Refused r) = refusal r
+abbrev pub filterOutcome : FilterAnswer → Outcome Unit
+filterOutcome Filtered = accepted tt
+filterOutcome (Refused r) = refusal r
 
 -- the output with rows first to end - 1 filtered, each chosen phase at its own spot i·N + j; nothing else in it changes
 abbrev pub filteredRows : Shape → ℕ → ℕ → List ℕ → List ℕ → List ℕ
@@ -63,10 +64,10 @@ abbrev pub zeroedWork : Engine → Shape → List ℕ → List ℕ
 zeroedWork e s work = written (λ k. 0) 0 (need e s) work
 
 -- A call of an engine: the answer, and all of the output and of the work memory at its end; a refusal changes nothing.
-pub record Call (e : Engine) (s : Shape) (first end : ℕ) (image output₀ work₀ : List ℕ) (r : FilterAnswer) (output₁ work₁ : List ℕ) : Type 0 where
-  pub answer : filterTold r ≡ filterCall e s first end image (length output₀) (length work₀)
-  pub output : output₁ ≡ leaves (filterTold r) (filteredRows s first end image output₀) output₀
-  pub work : work₁ ≡ leaves (filterTold r) (zeroedWork e s work₀) work₀
+pub record FilterCall (e : Engine) (s : Shape) (first end : ℕ) (image output₀ work₀ : List ℕ) (r : FilterAnswer) (output₁ work₁ : List ℕ) : Type 0 where
+  pub answer : filterOutcome r ≡ filterDue e s first end image (length output₀) (length work₀)
+  pub output : output₁ ≡ after (filterOutcome r) (λ u. filteredRows s first end image output₀) output₀
+  pub work : work₁ ≡ after (filterOutcome r) (λ u. zeroedWork e s work₀) work₀
 
 -- "Two outputs have the same rows if their numbers at i·N + j are equal for each row i of the range and each column j."
 abbrev pub SameRows : Shape → ℕ → ℕ → List ℕ → List ℕ → Type 0

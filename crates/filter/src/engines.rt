@@ -3,6 +3,8 @@ use crate::Engine;
 use refusal::limits::LEVEL_CYCLE;
 use refusal::limits::LONGEST_CYCLE;
 use shape::Shape;
+use shape::level_need;
+use shape::reading_need;
 ghost use mathlib.Core.Path.{_≡_};
 ghost use lib.ListN.{length};
 ghost use Rattle.refusal.specs.Outcome.{Clear};
@@ -24,12 +26,9 @@ pub fn need_of(engine: Engine, shape: Shape) -> usize
     requires { ⌜ Clear (shapeRules (limit engine) shape) ⌝ }
     ensures { λ r. ⌜ r ≡ need engine shape ⌝ }
 {
-    let columns = shape.columns as usize;
     match engine {
-        Engine::Level => (shape.cycle as usize) * (columns + 1),
-        Engine::Reading => (shape.mask_rows as usize)
-            * (shape.mask_columns as usize)
-            * (columns + 1),
+        Engine::Level => level_need(shape),
+        Engine::Reading => reading_need(shape),
     }
 }
 

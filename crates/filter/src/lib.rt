@@ -10,10 +10,10 @@ use memory::clear;
 use refusal::Refusal;
 use refusal::Verdict;
 use shape::Shape;
-use verdicts::judge;
+use verdicts::filter_verdict;
 pub use verdicts::room_verdict;
 ghost use Rattle.filter.specs.declared.Engine.the-variants.{Level, Reading};
-ghost use Rattle.filter.specs.Calls.{Call};
+ghost use Rattle.filter.specs.Calls.{FilterCall};
 
 pub enum Engine {
     Level,
@@ -35,9 +35,9 @@ pub fn run(
     output: &mut [u16],
     work: &mut [u32],
 ) -> FilterAnswer
-    ensures { λ r. ⌜ Call engine shape first end (now (input .entry)) (now (output .entry)) (now (work .entry)) r (now (output .exit)) (now (work .exit)) ⌝ }
+    ensures { λ r. ⌜ FilterCall engine shape first end (now (input .entry)) (now (output .entry)) (now (work .entry)) r (now (output .exit)) (now (work .exit)) ⌝ }
 {
-    match judge(engine, shape, first, end, input, output.len(), work.len()) {
+    match filter_verdict(engine, shape, first, end, input, output.len(), work.len()) {
         Verdict::Refused(f) => FilterAnswer::Refused(f),
         Verdict::Passed => {
             fill(
@@ -64,7 +64,7 @@ pub fn level(
     output: &mut [u16],
     work: &mut [u32],
 ) -> FilterAnswer
-    ensures { λ r. ⌜ Call Level shape first end (now (input .entry)) (now (output .entry)) (now (work .entry)) r (now (output .exit)) (now (work .exit)) ⌝ }
+    ensures { λ r. ⌜ FilterCall Level shape first end (now (input .entry)) (now (output .entry)) (now (work .entry)) r (now (output .exit)) (now (work .exit)) ⌝ }
 {
     run(Engine::Level, shape, first, end, input, output, work)
 }
@@ -78,7 +78,7 @@ pub fn reading(
     output: &mut [u16],
     work: &mut [u32],
 ) -> FilterAnswer
-    ensures { λ r. ⌜ Call Reading shape first end (now (input .entry)) (now (output .entry)) (now (work .entry)) r (now (output .exit)) (now (work .exit)) ⌝ }
+    ensures { λ r. ⌜ FilterCall Reading shape first end (now (input .entry)) (now (output .entry)) (now (work .entry)) r (now (output .exit)) (now (work .exit)) ⌝ }
 {
     run(Engine::Reading, shape, first, end, input, output, work)
 }

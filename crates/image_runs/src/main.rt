@@ -9,38 +9,50 @@
 // level engine has to refuse the cycle. The program prints what it counted, for each engine, and how
 // many numbers and answers were not the ones due.
 use filter::FilterAnswer;
-use libc::STDIN_FILENO;
-use libc::STDOUT_FILENO;
+use runs::cases::MOST_INPUT;
+use runs::cases::input;
+use runs::cases::number_at;
+use runs::counts::LARGEST;
+use runs::counts::after;
+use runs::counts::least;
+use runs::counts::minus;
+use runs::counts::plus;
+use runs::counts::times;
+use runs::print::say;
+use runs::print::say_count;
 use shape::Shape;
-ghost use Prim.Native.Nat.{_≤_, _<_};
 
 // The longest cycle that the level engine takes.
 const LEVEL_CYCLE: u32 = 4096;
 
-// The largest number, which stands for a sum or a product beyond it.
-const LARGEST: usize = 18446744073709551615;
+// The bytes of a case before its readings.
+const HEAD: usize = 14;
 
-// A case, with the offsets of its readings, of its phases and of the next case.
+// A case, with the offsets of its readings and of its phases, and the length of both.
 struct Case {
     shape: Shape,
     first: u32,
     end: u32,
     readings: usize,
     phases: usize,
-    next: usize,
+    body: usize,
 }
 
-// What is due of a call: its answer, which is 0 or a refusal's number; the rows that it writes, their
-// places in the output, from start up to end, and the offset of their phases; the work numbers that it
-// leaves 0. The call's number decides the garbage.
-struct Due {
+// What lent memory holds. The output has, from its place start up to end, numbers of standard input from an
+// offset on; the work memory has so many zeros first. All else is garbage, which the call's number decides.
+struct Memory {
     call: usize,
-    answer: u32,
-    rows: usize,
     start: usize,
     end: usize,
-    phases: usize,
-    need: usize,
+    offset: usize,
+    zeros: usize,
+}
+
+// What is due of a call: its answer, which is 0 or a refusal's number; the rows that it writes; the memory after it.
+struct Due {
+    answer: u32,
+    rows: usize,
+    memory: Memory,
 }
 
 // What was counted of an engine's calls: those that filtered and those refused; rows and phases of the
@@ -64,23 +76,6 @@ struct Counts {
     reading: Tally,
 }
 
-fn plus(a: usize, b: usize) -> usize {
-    if a <= LARGEST - b { a + b } else { LARGEST }
-}
-
-fn minus(a: usize, b: usize) -> usize {
-    if b <= a { a - b } else { 0 }
-}
-
-fn times(a: usize, b: usize) -> usize {
-    if a < 4294967296 {
-        if b < 4294967296 {
-            return a * b;
-        }
-    }
-    LARGEST
-}
-
 // 1 if two numbers differ.
 fn unequal(a: u32, b: u32) -> usize {
     if a == b { 0 } else { 1 }
@@ -88,22 +83,6 @@ fn unequal(a: u32, b: u32) -> usize {
 
 fn wide(x: u16) -> u32 {
     x as u32
-}
-
-fn joined(high: u8, low: u8) -> u16 {
-    high as u16 * 256 + low as u16
-}
-
-// The number at an offset; 0 past the end of the bytes.
-fn number_at(bytes: &[u8], at: usize) -> u16 {
-    if bytes.len() <= at {
-        return 0;
-    }
-    let low = at + 1;
-    if bytes.len() <= low {
-        return 0;
-    }
-    joined(bytes[at], bytes[low])
 }
 
 // The number k places after the one at an offset.
@@ -125,9 +104,9 @@ fn shape_at(bytes: &[u8], at: usize) -> Shape {
     }
 }
 
-// The offset of what follows so many rows of numbers.
-fn past(at: usize, rows: usize, columns: usize) -> usize {
-    plus(at, times(2, times(rows, columns)))
+// The bytes of so many rows of numbers.
+fn size(rows: usize, columns: usize) -> usize {
+    times(2, times(rows, columns))
 }
 
 fn case_at(bytes: &[u8], at: usize) -> Case {
@@ -135,39 +114,16 @@ fn case_at(bytes: &[u8], at: usize) -> Case {
     let first = size_after(bytes, at, 5);
     let end = size_after(bytes, at, 6);
     let columns = shape.columns as usize;
-    let readings = plus(at, 14);
-    let phases = past(readings, shape.rows as usize, columns);
-    let next = past(phases, minus(end as usize, first as usize), columns);
+    let image = size(shape.rows as usize, columns);
+    let range = size(minus(end as usize, first as usize), columns);
+    let readings = plus(at, HEAD);
     Case {
         shape,
         first,
         end,
         readings,
-        phases,
-        next,
-    }
-}
-
-// The next case's offset, or the end of the bytes: in any case a later one.
-fn later(at: usize, next: usize, end: usize) -> usize
-    requires { ⌜ at < end ⌝ }
-    ensures { λ r. ⌜ at < r ⌝ }
-    ensures { λ r. ⌜ r ≤ end ⌝ }
-{
-    if next <= at {
-        return end;
-    }
-    if end < next {
-        return end;
-    }
-    next
-}
-
-fn take_readings(bytes: &[u8], at: usize, input: &mut [u16]) {
-    let mut i = 0;
-    while i < input.len() {
-        input[i] = number_after(bytes, at, i);
-        i += 1;
+        phases: plus(readings, image),
+        body: plus(image, range),
     }
 }
 
@@ -181,118 +137,120 @@ fn work_garbage(place: usize, call: usize) -> u32 {
     ((place % 4294967291 * 2654435761 + call % 4294967291 * 40503) % 4294967291 + 1) as u32
 }
 
-fn fill_output(output: &mut [u16], call: usize) {
-    let mut i = 0;
-    while i < output.len() {
-        output[i] = output_garbage(i, call);
-        i += 1;
+// Garbage alone.
+fn garbage(call: usize) -> Memory {
+    Memory {
+        call,
+        start: 0,
+        end: 0,
+        offset: 0,
+        zeros: 0,
     }
 }
 
-fn fill_work(work: &mut [u32], call: usize) {
-    let mut i = 0;
-    while i < work.len() {
-        work[i] = work_garbage(i, call);
-        i += 1;
+// Numbers of standard input, from an offset on, and zeros alone.
+fn numbers(offset: usize) -> Memory {
+    Memory {
+        call: 0,
+        start: 0,
+        end: LARGEST,
+        offset,
+        zeros: LARGEST,
     }
 }
 
-// The number that is due at a place of the output.
-fn output_due(bytes: &[u8], due: Due, place: usize) -> u16 {
-    if place < due.start {
-        return output_garbage(place, due.call);
+// The number at a place of the output.
+fn output_number(bytes: &[u8], memory: Memory, place: usize) -> u16 {
+    if place < memory.start {
+        return output_garbage(place, memory.call);
     }
-    if place < due.end {
-        return number_after(bytes, due.phases, minus(place, due.start));
+    if place < memory.end {
+        return number_after(bytes, memory.offset, minus(place, memory.start));
     }
-    output_garbage(place, due.call)
+    output_garbage(place, memory.call)
 }
 
-fn work_due(due: Due, place: usize) -> u32 {
-    if place < due.need {
+fn work_number(memory: Memory, place: usize) -> u32 {
+    if place < memory.zeros {
         return 0;
     }
-    work_garbage(place, due.call)
+    work_garbage(place, memory.call)
 }
 
-fn output_differences(bytes: &[u8], due: Due, output: &[u16]) -> usize {
+fn fill_output(bytes: &[u8], memory: Memory, output: &mut [u16]) {
+    let mut i = 0;
+    while i < output.len() {
+        output[i] = output_number(bytes, memory, i);
+        i += 1;
+    }
+}
+
+fn fill_work(memory: Memory, work: &mut [u32]) {
+    let mut i = 0;
+    while i < work.len() {
+        work[i] = work_number(memory, i);
+        i += 1;
+    }
+}
+
+fn output_differences(bytes: &[u8], memory: Memory, output: &[u16]) -> usize {
     let mut found = 0;
     let mut i = 0;
     while i < output.len() {
         found = plus(
             found,
-            unequal(wide(output[i]), wide(output_due(bytes, due, i))),
+            unequal(wide(output[i]), wide(output_number(bytes, memory, i))),
         );
         i += 1;
     }
     found
 }
 
-fn work_differences(due: Due, work: &[u32]) -> usize {
+fn work_differences(memory: Memory, work: &[u32]) -> usize {
     let mut found = 0;
     let mut i = 0;
     while i < work.len() {
-        found = plus(found, unequal(work[i], work_due(due, i)));
+        found = plus(found, unequal(work[i], work_number(memory, i)));
         i += 1;
     }
     found
 }
 
-// 1 if a number of the output is a phase of the range, and not the reading at its place.
-fn is_moved(bytes: &[u8], readings: usize, due: Due, place: usize, number: u16) -> usize {
-    if place < due.start {
-        return 0;
-    }
-    if place < due.end {
-        return unequal(wide(number), size_after(bytes, readings, place));
-    }
-    0
-}
-
-fn moved(bytes: &[u8], readings: usize, due: Due, output: &[u16]) -> usize {
-    let mut found = 0;
-    let mut i = 0;
-    while i < output.len() {
-        found = plus(found, is_moved(bytes, readings, due, i, output[i]));
-        i += 1;
-    }
-    found
+// The phases of the range that are not the reading at their place.
+fn moved(bytes: &[u8], case: Case, memory: Memory, output: &[u16]) -> usize {
+    let end = least(memory.end, output.len());
+    let start = least(memory.start, end);
+    let readings = numbers(plus(case.readings, times(2, start)));
+    output_differences(bytes, readings, &output[start..end])
 }
 
 fn zeros(work: &[u32]) -> usize {
-    let mut found = 0;
-    let mut i = 0;
-    while i < work.len() {
-        found = plus(found, minus(1, unequal(work[i], 0)));
-        i += 1;
-    }
-    found
+    minus(work.len(), work_differences(numbers(0), work))
 }
 
 // What is due of a call that filters.
 fn filtered_due(case: Case, call: usize, need: usize) -> Due {
     let columns = case.shape.columns as usize;
-    Due {
+    let memory = Memory {
         call,
-        answer: 0,
-        rows: minus(case.end as usize, case.first as usize),
         start: times(case.first as usize, columns),
         end: times(case.end as usize, columns),
-        phases: case.phases,
-        need,
+        offset: case.phases,
+        zeros: need,
+    };
+    Due {
+        answer: 0,
+        rows: minus(case.end as usize, case.first as usize),
+        memory,
     }
 }
 
 // What is due of a call that refuses the cycle.
 fn refused_due(call: usize) -> Due {
     Due {
-        call,
         answer: 1,
         rows: 0,
-        start: 0,
-        end: 0,
-        phases: 0,
-        need: 0,
+        memory: garbage(call),
     }
 }
 
@@ -334,22 +292,23 @@ fn tallied(
     output: &[u16],
     work: &[u32],
 ) -> Tally {
+    let memory = due.memory;
     let refused = unequal(answer, 0);
-    let phases = minus(due.end, due.start);
-    let memory = plus(
-        output_differences(bytes, due, output),
-        work_differences(due, work),
+    let phases = minus(memory.end, memory.start);
+    let differences = plus(
+        output_differences(bytes, memory, output),
+        work_differences(memory, work),
     );
-    let wrong = plus(memory, unequal(answer, due.answer));
+    let wrong = plus(differences, unequal(answer, due.answer));
     Tally {
         filtered: plus(tally.filtered, minus(1, refused)),
         refused: plus(tally.refused, refused),
         rows: plus(tally.rows, due.rows),
         phases: plus(tally.phases, phases),
-        moved: plus(tally.moved, moved(bytes, case.readings, due, output)),
+        moved: plus(tally.moved, moved(bytes, case, memory, output)),
         kept: plus(tally.kept, minus(output.len(), phases)),
         zeros: plus(tally.zeros, zeros(work)),
-        spared: plus(tally.spared, minus(work.len(), due.need)),
+        spared: plus(tally.spared, minus(work.len(), memory.zeros)),
         differences: plus(tally.differences, wrong),
     }
 }
@@ -374,8 +333,8 @@ fn level_case(
     work: &mut [u32],
 ) -> Tally {
     let due = level_due(case, call);
-    fill_output(output, call);
-    fill_work(work, call);
+    fill_output(bytes, garbage(call), output);
+    fill_work(garbage(call), work);
     let answer = answer_number(run_level(case, input, output, work));
     tallied(tally, bytes, case, due, answer, output, work)
 }
@@ -390,8 +349,8 @@ fn reading_case(
     work: &mut [u32],
 ) -> Tally {
     let due = reading_due(case, call);
-    fill_output(output, call);
-    fill_work(work, call);
+    fill_output(bytes, garbage(call), output);
+    fill_work(garbage(call), work);
     let answer = answer_number(run_reading(case, input, output, work));
     tallied(tally, bytes, case, due, answer, output, work)
 }
@@ -436,12 +395,12 @@ fn run_case(
     work: &mut [u32],
 ) -> Counts {
     let start = 0;
-    let size = times(case.shape.rows as usize, case.shape.columns as usize);
-    if input.len() < size {
+    let end = times(case.shape.rows as usize, case.shape.columns as usize);
+    if input.len() < end {
         return left_out(counts);
     }
-    take_readings(bytes, case.readings, &mut input[start..size]);
-    run_image(counts, bytes, case, &input[start..size], output, work)
+    fill_output(bytes, numbers(case.readings), &mut input[start..end]);
+    run_image(counts, bytes, case, &input[start..end], output, work)
 }
 
 fn no_tally() -> Tally {
@@ -472,19 +431,9 @@ fn run_all(bytes: &[u8], input: &mut [u16], output: &mut [u16], work: &mut [u32]
     while at < bytes.len() {
         let case = case_at(bytes, at);
         counts = run_case(counts, bytes, case, input, output, work);
-        at = later(at, case.next, bytes.len());
+        at = after(at, plus(HEAD, case.body), bytes.len());
     }
     counts
-}
-
-fn say(text: &[u8]) {
-    io::write_all(STDOUT_FILENO, text);
-}
-
-fn say_count(name: &[u8], n: usize) {
-    say(name);
-    io::print_decimal(STDOUT_FILENO, n as u64);
-    say(b"\n");
 }
 
 fn say_tally(engine: &[u8], tally: Tally) {
@@ -501,12 +450,12 @@ fn say_tally(engine: &[u8], tally: Tally) {
 }
 
 fn main() {
-    let mut bytes = [0u8; 524288];
-    let mut input = [0u16; 480];
+    let mut bytes = [0u8; MOST_INPUT];
+    let mut image = [0u16; 480];
     let mut output = [0u16; 512];
     let mut work = [0u32; 168000];
-    let n = io::read_full(STDIN_FILENO, &mut bytes);
-    let counts = run_all(&bytes[..n], &mut input, &mut output, &mut work);
+    let n = input(&mut bytes);
+    let counts = run_all(&bytes[..n], &mut image, &mut output, &mut work);
     let level = counts.level;
     let reading = counts.reading;
     say_count(b"bytes ", n);

@@ -12,6 +12,7 @@ use Rattle.lists.specs.Tabulate.{tabulate}
 use Rattle.lists.proofs.Parts.{part-end}
 use Rattle.lists.proofs.Tabulate.{length-tabulate, getD-tabulate}
 use Rattle.refusal.specs.Limits.{levelCycle, longestCycle}
+use Rattle.shape.specs.Need.{levelNeed}
 use Rattle.shape.specs.declared.Shape.{Shape}
 use Rattle.median.proofs.Sum.{shares-sum}
 use Rattle.median.proofs.Choice.{chosen-by-sums}
@@ -24,8 +25,9 @@ use Rattle.window.specs.Ready.{Ready}
 use Rattle.window.specs.Window.{window, centre}
 use Rattle.window.proofs.Window.{centre-below}
 use Rattle.lines.specs.Lines.{Centres}
-use Rattle.level_sums.specs.Sums.{Given, windowSum, RowSums, need}
-use Rattle.level_sums.proofs.Spots.{accepted, column-room}
+use Rattle.lines.specs.Rows.{Given}
+use Rattle.level_sums.specs.Sums.{windowSum, RowSums}
+use Rattle.level_sums.proofs.Room.{accepted, column-room, columns-room}
 use Rattle.level_sums.proofs.ColumnLaws.{window-signed}
 use Rattle.level.specs.Rows.{Choosable, ChosenBy}
 
@@ -41,7 +43,7 @@ pub record Ripe (s : Shape) (image : List ℕ) (i : ℕ) (centres w : List ℕ) 
   pub choosable : Choosable (s .cycle) centres w j base
   pub chosen : (r : ℕ) → ChosenBy (s .cycle) centres w j base r → r ≡ phase s image i j
 
-pub ripe : {s : Shape} {image centres : List ℕ} {i j base : ℕ} (w : List ℕ) → Given s image (length w) → i < s .rows → j < s .columns
+pub ripe : {s : Shape} {image centres : List ℕ} {i j base : ℕ} (w : List ℕ) → Given levelCycle levelNeed s image (length w) → i < s .rows → j < s .columns
     → Centres s image i centres → base ≡ j * s .cycle → Holds w base (s .cycle) (windowSum s image i j) → Ripe s image i centres w j base
 unfolding phase
 ripe {s} {image} {centres} {i} {j} {base} w given hi hj mid at holds = record {
@@ -49,7 +51,7 @@ ripe {s} {image} {centres} {i} {j} {base} w given hi hj mid at holds = record {
     fits = omega (arith, accepted given);
     inside = omega (arith, mid .len, accepted given);
     tick = rw (mid .holds j hj) tick;
-    room = omega (arith, column-room given j hj, given .room);
+    room = omega (arith, column-room given j hj, columns-room given);
     signed = λ q h. rw (holds q h) (window-signed s image given i j hi hj q h);
   };
   chosen = λ r x. chosen-by-sums (s .cycle) (centre 0 s image i j) (window 0 s image i j) tick (copied w base) r (rw (mid .holds j hj) at x)
@@ -64,22 +66,22 @@ pub lowest-held : (w : List ℕ) (base n : ℕ) (f : ℕ → ℕ) {least : ℕ} 
 lowest-held w base n f holds e = e ∙ lowest-cong f (copied w base) n (λ q h. sym (holds q h))
 
 -- the first j phases of row i are written
-pub record Row (s : Shape) (image : List ℕ) (i : ℕ) (out : List ℕ) (j : ℕ) : Type 0 where
+pub record RowSoFar (s : Shape) (image : List ℕ) (i : ℕ) (out : List ℕ) (j : ℕ) : Type 0 where
   pub len : length out ≡ s .columns
   pub phases : (l : ℕ) → l < j → getD out l 0 ≡ phase s image i l
 
 module _ {s : Shape} {image : List ℕ} {i : ℕ} where
-  pub row-none : {out : List ℕ} → length out ≡ s .columns → Row s image i out 0
+  pub row-none : {out : List ℕ} → length out ≡ s .columns → RowSoFar s image i out 0
   row-none e = record { len = e; phases = λ l h. absurd (omega arith) }
 
-  pub row-turn : {out : List ℕ} {j v : ℕ} → Row s image i out j → j < s .columns → v ≡ phase s image i j → Row s image i (set out j v) (j + 1)
+  pub row-turn : {out : List ℕ} {j v : ℕ} → RowSoFar s image i out j → j < s .columns → v ≡ phase s image i j → RowSoFar s image i (set out j v) (j + 1)
   row-turn {out} {j} {v} r h e = record { len = length-set out j v ∙ r .len; phases = λ l g. at l g (ℕ-discrete l j) }
     where
       at : (l : ℕ) → l < j + 1 → Dec (l ≡ j) → getD (set out j v) l 0 ≡ phase s image i l
       at l g (yes d) = rw d (getD-set-same out j v 0 (omega (arith, r .len)) ∙ e)
       at l g (no d) = getD-set-other out j l v 0 d ∙ r .phases l (omega arith)
 
-  pub row-all : {out : List ℕ} {j : ℕ} → Row s image i out j → s .columns ≤ j → out ≡ tabulate (phaseAt s image) (i * s .columns) (s .columns)
+  pub row-all : {out : List ℕ} {j : ℕ} → RowSoFar s image i out j → s .columns ≤ j → out ≡ tabulate (phaseAt s image) (i * s .columns) (s .columns)
   row-all {out} {j} r h =
       ext-getD 0 out _ (r .len ∙ sym (length-tabulate (phaseAt s image) (i * s .columns) (s .columns)))
       (λ l g.
@@ -113,11 +115,11 @@ module _ (s : Shape) (image : List ℕ) where
 
   -- a column or the differences changed: nothing past the need did
   pub changed-outside : {w w′ : List ℕ} {place : ℕ} {f : ℕ → ℕ} → Changed w w′ place (s .cycle) f → place ≤ s .columns * s .cycle
-      → Outside w w′ 0 (need s)
+      → Outside w w′ 0 (levelNeed s)
   changed-outside x h = record { len = x .len; before = λ k g. absurd (omega arith); after = λ k g. x .after k (omega arith) }
 
   pub turned-outside : {w w′ : List ℕ} {place change : ℕ} {f z : ℕ → ℕ} → ChangedBoth w w′ place change (s .cycle) f z → change ≡ s .columns * s .cycle
-      → Outside w w′ 0 (need s)
+      → Outside w w′ 0 (levelNeed s)
   turned-outside x d = record { len = x .len; before = λ k g. absurd (omega arith); after = λ k g. x .after k (omega arith) }
 
 -- a part at another name of its place

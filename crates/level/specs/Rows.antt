@@ -4,27 +4,20 @@ use mathlib.Core.Path.{_≡_}
 use mathlib.Core.List.{List}
 use lib.ListN.{length, getD}
 use Rattle.lists.specs.Tabulate.{tabulate}
-use Rattle.refusal.specs.Limits.{longestCycle, levelCycle}
+use Rattle.refusal.specs.Limits.{longestCycle}
+use Rattle.shape.specs.Need.{levelNeed}
 use Rattle.shape.specs.declared.Shape.{Shape}
 use Rattle.median.specs.Choice.{candidates, Chosen}
 use Rattle.memory.specs.Memory.{Outside, Signed}
 use Rattle.memory.specs.Parts.{copied}
 use Rattle.window.specs.Phase.{phaseAt}
-use Rattle.lines.specs.Rows as Rows
-use Rattle.level_sums.specs.Sums.{RowSums, need}
-
--- the rows from first up to end may be filled, and they are
-abbrev pub Fillable : Shape → List ℕ → ℕ → ℕ → ℕ → ℕ → Type 0
-Fillable = Rows.Fillable levelCycle need
-
-abbrev pub Filled : Shape → List ℕ → ℕ → ℕ → List ℕ → List ℕ → List ℕ → List ℕ → Type 0
-Filled = Rows.Filled need
+use Rattle.level_sums.specs.Sums.{RowSums}
 
 -- row i is done: besides, its sums stand in the work memory
 pub record RowDone (s : Shape) (image : List ℕ) (i : ℕ) (out work₀ work : List ℕ) : Type 0 where
   pub phases : out ≡ tabulate (phaseAt s image) (i * s .columns) (s .columns)
   pub sums : RowSums s image i work 0 (s .columns)
-  pub outside : Outside work₀ work 0 (need s)
+  pub outside : Outside work₀ work 0 (levelNeed s)
 
 -- the tick of column j of a row may be chosen: its centre stands in a line of centres, and its sums at `base`
 pub record Choosable (c : ℕ) (centres work : List ℕ) (j base : ℕ) : Type 0 where

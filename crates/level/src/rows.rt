@@ -13,12 +13,15 @@ use shape::Shape;
 ghost use mathlib.Core.Path.{_≡_};
 ghost use Prim.Native.Nat.{_+_, _<_};
 ghost use lib.ListN.{length};
+ghost use Rattle.refusal.specs.Limits.{levelCycle};
+ghost use Rattle.shape.specs.Need.{levelNeed};
 ghost use Rattle.memory.specs.Memory.{lowest};
 ghost use Rattle.memory.specs.Parts.{copied};
 ghost use Rattle.lines.specs.Lines.{IsLine};
+ghost use Rattle.lines.specs.Rows.{Given, Fillable, Filled};
 ghost use Rattle.level_sums.specs.Table.{Table};
-ghost use Rattle.level_sums.specs.Sums.{Given, RowSums};
-ghost use Rattle.level.specs.Rows.{Choosable, ChosenBy, RowDone, Fillable, Filled};
+ghost use Rattle.level_sums.specs.Sums.{RowSums};
+ghost use Rattle.level.specs.Rows.{Choosable, ChosenBy, RowDone};
 
 // The phase of column j of a row, from its centre and its sums, of which least is the lowest.
 fn phase_of(cycle: usize, centres: &[u16], work: &[u32], j: usize, base: usize, least: u32) -> u16
@@ -47,7 +50,7 @@ fn first_row(
     i: usize,
     out: &mut [u16],
 )
-    requires { ⌜ Given shape (now image) (length (now work)) × Table (shape .cycle) (now table) × IsLine (now centres) ⌝ }
+    requires { ⌜ Given levelCycle levelNeed shape (now image) (length (now work)) × Table (shape .cycle) (now table) × IsLine (now centres) ⌝ }
     requires { ⌜ (i < shape .rows) × (length (now out) ≡ shape .columns) ⌝ }
     ensures { λ _. ⌜ RowDone shape (now (image .entry)) i (now (out .exit)) (now (work .entry)) (now (work .exit)) ⌝ }
 {
@@ -76,7 +79,7 @@ fn next_row(
     i: usize,
     out: &mut [u16],
 )
-    requires { ⌜ Given shape (now image) (length (now work)) × Table (shape .cycle) (now table) × IsLine (now centres) ⌝ }
+    requires { ⌜ Given levelCycle levelNeed shape (now image) (length (now work)) × Table (shape .cycle) (now table) × IsLine (now centres) ⌝ }
     requires { ⌜ (i + 1 < shape .rows) × (length (now out) ≡ shape .columns) × RowSums shape (now image) i (now work) 0 (shape .columns) ⌝ }
     ensures { λ _. ⌜ RowDone shape (now (image .entry)) (i + 1) (now (out .exit)) (now (work .entry)) (now (work .exit)) ⌝ }
 {
@@ -108,9 +111,9 @@ fn each_row(
     table: &[u32],
     centres: &mut [u16],
 )
-    requires { ⌜ Fillable shape (now image) first end (length (now output)) (length (now work)) × (first < end) ⌝ }
+    requires { ⌜ Fillable levelCycle levelNeed shape (now image) first end (length (now output)) (length (now work)) × (first < end) ⌝ }
     requires { ⌜ Table (shape .cycle) (now table) × IsLine (now centres) ⌝ }
-    ensures { λ _. ⌜ Filled shape (now (image .entry)) first end (now (output .entry)) (now (output .exit)) (now (work .entry)) (now (work .exit)) ⌝ }
+    ensures { λ _. ⌜ Filled levelNeed shape (now (image .entry)) first end (now (output .entry)) (now (output .exit)) (now (work .entry)) (now (work .exit)) ⌝ }
 {
     let columns = shape.columns as usize;
     let start = first * columns;
@@ -142,8 +145,8 @@ fn with_table(
     output: &mut [u16],
     work: &mut [u32],
 )
-    requires { ⌜ Fillable shape (now image) first end (length (now output)) (length (now work)) ⌝ }
-    ensures { λ _. ⌜ Filled shape (now (image .entry)) first end (now (output .entry)) (now (output .exit)) (now (work .entry)) (now (work .exit)) ⌝ }
+    requires { ⌜ Fillable levelCycle levelNeed shape (now image) first end (length (now output)) (length (now work)) ⌝ }
+    ensures { λ _. ⌜ Filled levelNeed shape (now (image .entry)) first end (now (output .entry)) (now (output .exit)) (now (work .entry)) (now (work .exit)) ⌝ }
 {
     if first == end {
         return;
@@ -165,8 +168,8 @@ pub fn fill(
     output: &mut [u16],
     work: &mut [u32],
 )
-    requires { ⌜ Fillable shape (now image) first end (length (now output)) (length (now work)) ⌝ }
-    ensures { λ _. ⌜ Filled shape (now (image .entry)) first end (now (output .entry)) (now (output .exit)) (now (work .entry)) (now (work .exit)) ⌝ }
+    requires { ⌜ Fillable levelCycle levelNeed shape (now image) first end (length (now output)) (length (now work)) ⌝ }
+    ensures { λ _. ⌜ Filled levelNeed shape (now (image .entry)) first end (now (output .entry)) (now (output .exit)) (now (work .entry)) (now (work .exit)) ⌝ }
 {
     with_table(shape, first, end, image, output, work);
     if end < first {

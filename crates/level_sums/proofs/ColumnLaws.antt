@@ -1,4 +1,5 @@
--- The sums of columns, step by step, as the engine builds them. Assumes nothing.
+-- The sums of columns, step by step, as the engine builds them: each pass over a part of the table adds or exchanges what one reading
+-- gives at every tick, and the running-sum laws of window say what that makes of a column. Assumes nothing.
 use Prim.Native.Nat.{ℕ, _+_, _%_, _^_, _<_}
 use mathlib.Core.Path.{_≡_, refl, ap, sym, _∙_}
 use mathlib.Core.List.{List}
@@ -10,13 +11,16 @@ use Rattle.lists.specs.Total.{total}
 use Rattle.lists.specs.Difference.{difference, adjusted}
 use Rattle.lists.proofs.Difference.{difference-is}
 use Rattle.lists.proofs.Total.{total-more}
+use Rattle.refusal.specs.Limits.{levelCycle}
+use Rattle.shape.specs.Need.{levelNeed}
 use Rattle.shape.specs.declared.Shape.{Shape}
 use Rattle.median.specs.Sum.{share, shares}
 use Rattle.memory.specs.Memory.{Signed}
 use Rattle.window.specs.Window.{padded, block, window}
 use Rattle.window.proofs.Sums.{total-block-more, block-across, change, sum-down, change-across}
 use Rattle.window.proofs.Window.{shares-small}
-use Rattle.level_sums.specs.Sums.{Given, windowSum, blockSum, rowChange}
+use Rattle.lines.specs.Rows.{Given}
+use Rattle.level_sums.specs.Sums.{windowSum, blockSum, rowChange}
 
 module _ (s : Shape) (image : List ℕ) where
   abbrev y : ℕ → ℕ → ℕ
@@ -47,21 +51,21 @@ module _ (s : Shape) (image : List ℕ) where
   unfolding block joined total difference
   block-none i q = refl
 
-  -- column j with k readings of column j + T come in, and k readings of column j gone out
-  abbrev pub comeSum : ℕ → ℕ → ℕ → ℕ → ℕ
-  comeSum i j k q = windowSum s image i j q + shares (s .cycle) q (tabulate (λ a. y a (j + s .«mask_columns»)) i k)
+  -- column j with k readings of column j + T entered, and k readings of column j gone
+  abbrev pub enteringSum : ℕ → ℕ → ℕ → ℕ → ℕ
+  enteringSum i j k q = windowSum s image i j q + shares (s .cycle) q (tabulate (λ a. y a (j + s .«mask_columns»)) i k)
 
-  abbrev pub goSum : ℕ → ℕ → ℕ → ℕ → ℕ
-  goSum i j k q = shares (s .cycle) q (tabulate (λ a. y a j) i k)
+  abbrev pub leavingSum : ℕ → ℕ → ℕ → ℕ → ℕ
+  leavingSum i j k q = shares (s .cycle) q (tabulate (λ a. y a j) i k)
 
   abbrev pub columnRun : ℕ → ℕ → ℕ → ℕ → ℕ
-  columnRun i j k q = difference (comeSum i j k q) (goSum i j k q)
+  columnRun i j k q = difference (enteringSum i j k q) (leavingSum i j k q)
 
-  pub come-more : (i j k q : ℕ) → comeSum i j (k + 1) q ≡ comeSum i j k q + share (s .cycle) q (y (i + k) (j + s .«mask_columns»))
-  come-more i j k q = omega (arith, total-more (share (s .cycle) q) (λ a. y a (j + s .«mask_columns»)) i k)
+  pub entering-more : (i j k q : ℕ) → enteringSum i j (k + 1) q ≡ enteringSum i j k q + share (s .cycle) q (y (i + k) (j + s .«mask_columns»))
+  entering-more i j k q = omega (arith, total-more (share (s .cycle) q) (λ a. y a (j + s .«mask_columns»)) i k)
 
-  pub go-more : (i j k q : ℕ) → goSum i j (k + 1) q ≡ goSum i j k q + share (s .cycle) q (y (i + k) j)
-  go-more i j k q = total-more (share (s .cycle) q) (λ a. y a j) i k
+  pub leaving-more : (i j k q : ℕ) → leavingSum i j (k + 1) q ≡ leavingSum i j k q + share (s .cycle) q (y (i + k) j)
+  leaving-more i j k q = total-more (share (s .cycle) q) (λ a. y a j) i k
 
   -- the differences at column 0, from l readings of each of the two rows
   abbrev pub changeRun : ℕ → ℕ → ℕ → ℕ
@@ -79,7 +83,7 @@ module _ (s : Shape) (image : List ℕ) where
   unfolding change
   change-next i j q = change-across y (s .«mask_columns») (share (s .cycle) q) i j (s .«mask_rows»)
 
-  module _ {room : ℕ} (given : Given s image room) where
+  module _ {room : ℕ} (given : Given levelCycle levelNeed s image room) where
     -- the sums of a window are signed numbers
     pub window-signed : (i j : ℕ) → i < s .rows → j < s .columns → Signed (windowSum s image i j) (s .cycle)
     window-signed i j hi hj q hq = omega (arith, shares-small (given .ready) (omega arith) i j hi hj q hq)

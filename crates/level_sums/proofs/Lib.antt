@@ -1,4 +1,4 @@
 pub mod TableLaws
-pub mod Spots
+pub mod Room
 pub mod Running
 pub mod ColumnLaws

@@ -12,34 +12,35 @@ use Rattle.memory.specs.Memory.{Holds, Changed, ChangedBoth, Signed, lowest}
 use Rattle.memory.specs.Parts.{added, swapped, turned, summed}
 use Rattle.memory.proofs.Memory.{changed-again, changed-is, both-is}
 use Rattle.memory.proofs.Lowest.{lowest-cong}
-use Rattle.level_sums.proofs.Spots.{Part}
+use Rattle.level_sums.specs.Table.{Part}
 
 module _ {c : ℕ} {table w₀ w w′ : List ℕ} {base : ℕ} (a b a′ b′ : ℕ → ℕ) where
-  -- a reading comes in
-  pub run-added : {y come : ℕ} → Part c table y come → Changed w₀ w base c (λ q. difference (a q) (b q)) → Changed w w′ base c (added w base table come)
+  -- a reading enters
+  pub run-added : {y entering : ℕ} → Part c table y entering → Changed w₀ w base c (λ q. difference (a q) (b q))
+      → Changed w w′ base c (added w base table entering)
       → ((q : ℕ) → q < c → a′ q ≡ a q + share c q y) → ((q : ℕ) → q < c → b′ q ≡ b q)
       → Changed w₀ w′ base c (λ q. difference (a′ q) (b′ q))
-  run-added {y} {come} part x z e d = changed-is (λ q. difference (a′ q) (b′ q)) (changed-again x z) step
+  run-added {y} {entering} part x d e f = changed-is (λ q. difference (a′ q) (b′ q)) (changed-again x d) step
     where
-      step : (q : ℕ) → q < c → added w base table come q ≡ difference (a′ q) (b′ q)
+      step : (q : ℕ) → q < c → added w base table entering q ≡ difference (a′ q) (b′ q)
       step q h =
           ap₂ (λ (u v : ℕ). adjusted u v 0) (x .holds q h) (part .shares q h)
           ∙ difference-adjusted (a q) (b q) (share c q y) 0
-          ∙ ap₂ difference (sym (e q h)) (add-zero (b q) ∙ sym (d q h))
+          ∙ ap₂ difference (sym (e q h)) (add-zero (b q) ∙ sym (f q h))
 
-  -- a reading comes in and another goes out, each with its own share at every tick
-  pub run-swapped : {y z come go : ℕ} → Part c table y come → Part c table z go → Changed w₀ w base c (λ q. difference (a q) (b q))
-      → Changed w w′ base c (swapped w base table come go)
+  -- a reading enters and another leaves, each with its own share at every tick
+  pub run-swapped : {y z entering leaving : ℕ} → Part c table y entering → Part c table z leaving → Changed w₀ w base c (λ q. difference (a q) (b q))
+      → Changed w w′ base c (swapped w base table entering leaving)
       → ((q : ℕ) → q < c → a′ q ≡ a q + share c q y) → ((q : ℕ) → q < c → b′ q ≡ b q + share c q z)
       → Changed w₀ w′ base c (λ q. difference (a′ q) (b′ q))
-  run-swapped {y} {z} {come} {go} in-part out-part x k e d = changed-is (λ q. difference (a′ q) (b′ q)) (changed-again x k) step
+  run-swapped {y} {z} {entering} {leaving} in-part out-part x d e f = changed-is (λ q. difference (a′ q) (b′ q)) (changed-again x d) step
     where
-      step : (q : ℕ) → q < c → swapped w base table come go q ≡ difference (a′ q) (b′ q)
+      step : (q : ℕ) → q < c → swapped w base table entering leaving q ≡ difference (a′ q) (b′ q)
       step q h =
-          ap (λ (u : ℕ). adjusted u (getD table (come + q) 0) (getD table (go + q) 0)) (x .holds q h)
+          ap (λ (u : ℕ). adjusted u (getD table (entering + q) 0) (getD table (leaving + q) 0)) (x .holds q h)
           ∙ ap₂ (adjusted (difference (a q) (b q))) (in-part .shares q h) (out-part .shares q h)
           ∙ difference-adjusted (a q) (b q) (share c q y) (share c q z)
-          ∙ ap₂ difference (sym (e q h)) (sym (d q h))
+          ∙ ap₂ difference (sym (e q h)) (sym (f q h))
 
 -- A column moved down by a row: its differences take two readings in and give two away.
 pub turned-is : {c : ℕ} {table : List ℕ} {y₁ y₂ z₁ z₂ in₁ in₂ out₁ out₂ : ℕ} (w : List ℕ) (place : ℕ) (f g : ℕ → ℕ)

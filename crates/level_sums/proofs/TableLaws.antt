@@ -13,8 +13,10 @@ use Rattle.cycle.specs.Step.{ahead}
 use Rattle.cycle.proofs.DistanceLaws.{distance-half, distance-symmetric}
 use Rattle.cycle.proofs.Ways.{ahead-way, distance-way}
 use Rattle.cycle.proofs.Ways.Way.{straight}
+use Rattle.shape.specs.declared.Shape.{Shape}
 use Rattle.median.specs.Sum.{share}
-use Rattle.level_sums.specs.Table.{Table, tableLength}
+use Rattle.window.specs.Window.{padded}
+use Rattle.level_sums.specs.Table.{Table, tableLength, PartAt}
 
 -- the distance of q and y is that of the way from y to q and tick 0
 turn-back : (c y q : ℕ) → y < c → q < c → distance c (ahead c y q) 0 ≡ distance c q y
@@ -26,10 +28,18 @@ turn-back c y q h g =
     ∙ sym (distance-way (c - e) h g (omega (arith, r .less)) (r .way))
     ∙ distance-symmetric c y q
 
-pub table-part : {c : ℕ} {table : List ℕ} → Table c table → (y q : ℕ) → y < c → q < c → getD table (c - y + q) 0 ≡ share c q y
+table-part : {c : ℕ} {table : List ℕ} → Table c table → (y q : ℕ) → y < c → q < c → getD table (c - y + q) 0 ≡ share c q y
 unfolding ahead share
 table-part {c} {table} t y q h g =
     t .holds (c - y + q) (omega arith) ∙ ap (λ (x : ℕ). distance c (x % c) 0) (add-comm (c - y) q) ∙ turn-back c y q h g
+
+-- the part for the reading at row position p and column position l of the padded image
+pub part-found : (s : Shape) (image : List ℕ) (p l : ℕ) {start : ℕ} → s .cycle ≤ levelCycle → padded 0 s image p l < s .cycle
+    → start ≡ s .cycle - padded 0 s image p l → PartAt s image p l start
+part-found s image p l small tick e table t = record {
+  room = omega (arith, t .len);
+  shares = λ q h. ap (λ (x : ℕ). getD table (x + q) 0) e ∙ table-part t (padded 0 s image p l) q tick h;
+}
 
 -- a loop has filled the table up to k
 pub record Filling (c : ℕ) (table : List ℕ) (k : ℕ) : Type 0 where

@@ -3,20 +3,10 @@
 use Prim.Native.Nat.{ℕ, _+_, _*_, _≤_, _<_}
 use mathlib.Core.List.{List}
 use Rattle.lists.specs.Difference.{difference}
-use Rattle.refusal.specs.Limits.{levelCycle}
 use Rattle.shape.specs.declared.Shape.{Shape}
 use Rattle.median.specs.Sum.{shares}
 use Rattle.memory.specs.Memory.{Holds}
 use Rattle.window.specs.Window.{padded, stretch, block, window}
-use Rattle.lines.specs.Rows as Rows
-
--- the numbers of work memory that the engine needs: C (N + 1)
-abbrev pub need : Shape → ℕ
-need s = s .columns * s .cycle + s .cycle
-
--- what the engine is given
-abbrev pub Given : Shape → List ℕ → ℕ → Type 0
-Given = Rows.Given levelCycle need
 
 -- the sum at tick q of the window of row i and column j
 abbrev pub windowSum : Shape → List ℕ → ℕ → ℕ → ℕ → ℕ

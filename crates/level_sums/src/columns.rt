@@ -7,40 +7,16 @@ use memory::turn;
 use shape::Shape;
 use window::mirrored;
 ghost use mathlib.Core.Path.{_≡_};
-ghost use Prim.Native.Nat.{_+_, _-_, _*_, _<_};
-ghost use lib.ListN.{length, getD};
+ghost use Prim.Native.Nat.{_+_, _*_, _<_};
+ghost use lib.ListN.{length};
 ghost use Rattle.refusal.specs.Limits.{levelCycle};
-ghost use Rattle.refusal.specs.Outcome.{Clear};
-ghost use Rattle.shape.specs.Rules.{reach, shapeRules};
+ghost use Rattle.shape.specs.Need.{levelNeed};
+ghost use Rattle.shape.specs.Rules.{reach};
 ghost use Rattle.memory.specs.Memory.{Holds, Changed, ChangedBoth, lowest};
-ghost use Rattle.window.specs.Mirror.{mirror};
-ghost use Rattle.level_sums.specs.Table.{Table};
-ghost use Rattle.level_sums.specs.Sums.{Given, windowSum, blockSum, rowChange};
-
-// Where the row at a position of the padded image starts in the image.
-fn row_start(shape: Shape, position: usize) -> usize
-    requires { ⌜ Clear (shapeRules levelCycle shape) × (position < shape .rows + 2 * reach (shape .«mask_rows»)) ⌝ }
-    ensures { λ r. ⌜ r ≡ mirror (shape .rows) (reach (shape .«mask_rows»)) position * shape .columns ⌝ }
-{
-    mirrored(
-        shape.rows as usize,
-        (shape.mask_rows / 2) as usize,
-        position,
-    )
-        * (shape.columns as usize)
-}
-
-// The column that a position of the padded image stands for.
-fn column_at(shape: Shape, position: usize) -> usize
-    requires { ⌜ Clear (shapeRules levelCycle shape) × (position < shape .columns + 2 * reach (shape .«mask_columns»)) ⌝ }
-    ensures { λ r. ⌜ r ≡ mirror (shape .columns) (reach (shape .«mask_columns»)) position ⌝ }
-{
-    mirrored(
-        shape.columns as usize,
-        (shape.mask_columns / 2) as usize,
-        position,
-    )
-}
+ghost use Rattle.window.specs.Ready.{Ready};
+ghost use Rattle.lines.specs.Rows.{Given};
+ghost use Rattle.level_sums.specs.Table.{Table, PartAt};
+ghost use Rattle.level_sums.specs.Sums.{windowSum, blockSum, rowChange};
 
 pub fn wide(x: u16) -> usize
     ensures { λ r. ⌜ r ≡ x ⌝ }
@@ -48,35 +24,46 @@ pub fn wide(x: u16) -> usize
     x as usize
 }
 
-// Where the table's part for the reading at a place of the image starts.
-fn part_of(image: &[u16], cycle: usize, place: usize) -> usize
-    requires { ⌜ (place < length (now image)) × (getD (now image) place 0 < cycle) ⌝ }
-    ensures { λ r. ⌜ r ≡ cycle - getD (now (image .entry)) place 0 ⌝ }
+// Where the table's part starts for the reading at a row's and a column's position of the padded image.
+fn part_at(shape: Shape, image: &[u16], row_position: usize, column_position: usize) -> usize
+    requires { ⌜ Ready levelCycle shape (now image) ⌝ }
+    requires { ⌜ («row_position» < shape .rows + 2 * reach (shape .«mask_rows»)) × («column_position» < shape .columns + 2 * reach (shape .«mask_columns»)) ⌝ }
+    ensures { λ r. ⌜ PartAt shape (now (image .entry)) «row_position» «column_position» r ⌝ }
 {
-    cycle - wide(image[place])
+    let row = mirrored(
+        shape.rows as usize,
+        (shape.mask_rows / 2) as usize,
+        row_position,
+    );
+    let column = mirrored(
+        shape.columns as usize,
+        (shape.mask_columns / 2) as usize,
+        column_position,
+    );
+    let place = row * (shape.columns as usize) + column;
+    (shape.cycle as usize) - wide(image[place])
 }
 
 // Adds mask row k of the window of row i and column 0.
 fn add_mask_row(shape: Shape, image: &[u16], work: &mut [u32], table: &[u32], i: usize, k: usize)
-    requires { ⌜ Given shape (now image) (length (now work)) × Table (shape .cycle) (now table) ⌝ }
+    requires { ⌜ Given levelCycle levelNeed shape (now image) (length (now work)) × Table (shape .cycle) (now table) ⌝ }
     requires { ⌜ (i < shape .rows) × (k < shape .«mask_rows») ⌝ }
     requires { ⌜ Holds (now work) 0 (shape .cycle) (blockSum shape (now image) i k) ⌝ }
     ensures { λ _. ⌜ Changed (now (work .entry)) (now (work .exit)) 0 (shape .cycle) (blockSum shape (now (image .entry)) i (k + 1)) ⌝ }
 {
     let cycle = shape.cycle as usize;
     let columns = shape.mask_columns as usize;
-    let row = row_start(shape, i + k);
     let mut l = 0;
     while l < columns {
-        let part = part_of(image, cycle, row + column_at(shape, l));
-        add(work, 0, table, part, cycle);
+        let entering = part_at(shape, image, i + k, l);
+        add(work, 0, table, entering, cycle);
         l += 1;
     }
 }
 
 // The sums of the window of row i and column 0.
 pub fn first_column(shape: Shape, image: &[u16], work: &mut [u32], table: &[u32], i: usize)
-    requires { ⌜ Given shape (now image) (length (now work)) × Table (shape .cycle) (now table) ⌝ }
+    requires { ⌜ Given levelCycle levelNeed shape (now image) (length (now work)) × Table (shape .cycle) (now table) ⌝ }
     requires { ⌜ i < shape .rows ⌝ }
     ensures { λ _. ⌜ Changed (now (work .entry)) (now (work .exit)) 0 (shape .cycle) (windowSum shape (now (image .entry)) i 0) ⌝ }
 {
@@ -99,23 +86,21 @@ pub fn next_column(
     j: usize,
     base: usize,
 )
-    requires { ⌜ Given shape (now image) (length (now work)) × Table (shape .cycle) (now table) ⌝ }
+    requires { ⌜ Given levelCycle levelNeed shape (now image) (length (now work)) × Table (shape .cycle) (now table) ⌝ }
     requires { ⌜ (i < shape .rows) × (j + 1 < shape .columns) × (base ≡ j * shape .cycle) ⌝ }
     requires { ⌜ Holds (now work) base (shape .cycle) (windowSum shape (now image) i j) ⌝ }
     ensures { λ _. ⌜ Changed (now (work .entry)) (now (work .exit)) (base + shape .cycle) (shape .cycle) (windowSum shape (now (image .entry)) i (j + 1)) ⌝ }
 {
     let cycle = shape.cycle as usize;
     let rows = shape.mask_rows as usize;
-    let leaving = column_at(shape, j);
-    let coming = column_at(shape, j + (shape.mask_columns as usize));
+    let ahead = j + (shape.mask_columns as usize);
     let next = base + cycle;
     copy(work, next, base, cycle);
     let mut k = 0;
     while k < rows {
-        let row = row_start(shape, i + k);
-        let come = part_of(image, cycle, row + coming);
-        let go = part_of(image, cycle, row + leaving);
-        swap(work, next, table, come, go, cycle);
+        let entering = part_at(shape, image, i + k, ahead);
+        let leaving = part_at(shape, image, i + k, j);
+        swap(work, next, table, entering, leaving, cycle);
         k += 1;
     }
 }
@@ -129,21 +114,19 @@ fn first_change(
     i: usize,
     change: usize,
 )
-    requires { ⌜ Given shape (now image) (length (now work)) × Table (shape .cycle) (now table) ⌝ }
+    requires { ⌜ Given levelCycle levelNeed shape (now image) (length (now work)) × Table (shape .cycle) (now table) ⌝ }
     requires { ⌜ (i + 1 < shape .rows) × (change ≡ shape .columns * shape .cycle) ⌝ }
     ensures { λ _. ⌜ Changed (now (work .entry)) (now (work .exit)) change (shape .cycle) (rowChange shape (now (image .entry)) i 0) ⌝ }
 {
     let cycle = shape.cycle as usize;
     let columns = shape.mask_columns as usize;
-    let top = row_start(shape, i);
-    let bottom = row_start(shape, i + (shape.mask_rows as usize));
+    let below = i + (shape.mask_rows as usize);
     clear(work, change, cycle);
     let mut l = 0;
     while l < columns {
-        let column = column_at(shape, l);
-        let come = part_of(image, cycle, bottom + column);
-        let go = part_of(image, cycle, top + column);
-        swap(work, change, table, come, go, cycle);
+        let entering = part_at(shape, image, below, l);
+        let leaving = part_at(shape, image, i, l);
+        swap(work, change, table, entering, leaving, cycle);
         l += 1;
     }
 }
@@ -157,7 +140,7 @@ pub fn start_row(
     i: usize,
     change: usize,
 ) -> u32
-    requires { ⌜ Given shape (now image) (length (now work)) × Table (shape .cycle) (now table) ⌝ }
+    requires { ⌜ Given levelCycle levelNeed shape (now image) (length (now work)) × Table (shape .cycle) (now table) ⌝ }
     requires { ⌜ (i + 1 < shape .rows) × (change ≡ shape .columns * shape .cycle) ⌝ }
     requires { ⌜ Holds (now work) 0 (shape .cycle) (windowSum shape (now image) i 0) ⌝ }
     ensures { λ r. ⌜ (ChangedBoth (now (work .entry)) (now (work .exit)) 0 change (shape .cycle) (windowSum shape (now (image .entry)) (i + 1) 0) (rowChange shape (now (image .entry)) i 0))
@@ -178,7 +161,7 @@ pub fn advance(
     base: usize,
     change: usize,
 ) -> u32
-    requires { ⌜ Given shape (now image) (length (now work)) × Table (shape .cycle) (now table) ⌝ }
+    requires { ⌜ Given levelCycle levelNeed shape (now image) (length (now work)) × Table (shape .cycle) (now table) ⌝ }
     requires { ⌜ (i + 1 < shape .rows) × (j + 1 < shape .columns) × (base ≡ (j + 1) * shape .cycle) × (change ≡ shape .columns * shape .cycle) ⌝ }
     requires { ⌜ Holds (now work) base (shape .cycle) (windowSum shape (now image) i (j + 1)) ⌝ }
     requires { ⌜ Holds (now work) change (shape .cycle) (rowChange shape (now image) i j) ⌝ }
@@ -186,13 +169,11 @@ pub fn advance(
         × (r ≡ lowest (windowSum shape (now (image .entry)) (i + 1) (j + 1)) (shape .cycle)) ⌝ }
 {
     let cycle = shape.cycle as usize;
-    let top = row_start(shape, i);
-    let bottom = row_start(shape, i + (shape.mask_rows as usize));
-    let leaving = column_at(shape, j);
-    let coming = column_at(shape, j + (shape.mask_columns as usize));
-    let in1 = part_of(image, cycle, bottom + coming);
-    let in2 = part_of(image, cycle, top + leaving);
-    let out1 = part_of(image, cycle, bottom + leaving);
-    let out2 = part_of(image, cycle, top + coming);
+    let below = i + (shape.mask_rows as usize);
+    let ahead = j + (shape.mask_columns as usize);
+    let in1 = part_at(shape, image, below, ahead);
+    let in2 = part_at(shape, image, i, j);
+    let out1 = part_at(shape, image, below, j);
+    let out2 = part_at(shape, image, i, ahead);
     turn(work, base, change, table, in1, in2, out1, out2, cycle)
 }

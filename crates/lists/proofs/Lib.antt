@@ -3,7 +3,7 @@ pub mod Tabulate
 pub mod Joined
 pub mod Written
 pub mod Stores
-pub mod Holds
+pub mod Has
 pub mod First
 pub mod Least
 pub mod Difference

@@ -4,16 +4,26 @@ use mathlib.Core.Path.{_≡_, refl, ap, _∙_}
 use mathlib.Core.List.{List, [], _∷_, _++_}
 use native.Mathlib.Omega.{arith}
 use native.Mathlib.Nat.{add-zero, zero-add}
-use lib.ListN.{length, drop}
-use lib.Seq.{sets, sets-eq, length-sets}
+use lib.ListN.{length, take, drop, length-append}
+use lib.Seq.{sets, sets-eq, length-sets, take-at}
+use Rattle.lists.specs.Front.{atFront}
 
 pub sets-append : {A : Type 0} (l : List A) (at : ℕ) (xs ys : List A) (next : ℕ) → next ≡ at + length xs → sets (sets l at xs) next ys ≡ sets l at (xs ++ ys)
 sets-append l at [] ys next e = ap (λ (k : ℕ). sets l k ys) (e ∙ add-zero at)
 sets-append l at (x ∷ xs) ys next e = sets-append _ (suc at) xs ys next (omega arith)
 
 -- from the start on
-pub sets-front : {A : Type 0} (l xs : List A) → length xs ≤ length l → sets l 0 xs ≡ xs ++ drop (length xs) l
+pub sets-front : {A : Type 0} (l xs : List A) → length xs ≤ length l → sets l 0 xs ≡ atFront xs l
+unfolding atFront
 sets-front l xs h = sets-eq xs l 0 (omega arith) ∙ rw zero-add
+
+pub front-taken : {A : Type 0} (l xs : List A) (n : ℕ) → length xs ≡ n → take n (atFront xs l) ≡ xs
+unfolding atFront
+front-taken l xs n e = take-at xs _ n e
+
+pub front-room : {A : Type 0} (l xs : List A) → length xs ≤ length (atFront xs l)
+unfolding atFront
+front-room l xs = omega (arith, length-append xs (drop (length xs) l))
 
 -- Code has stored xs from place at of l₀ on, and l is what it has so far.
 pub record Stored {A : Type 0} (l₀ : List A) (at : ℕ) (xs l : List A) : Type 0 where

@@ -1,15 +1,14 @@
 -- Laws of `written`: what a loop that sets one place after the other leaves, and what a lent part that comes back leaves.
 -- Assumes nothing.
-use Prim.Native.Nat.{ℕ, suc, _+_, _-_, _≤_, _<_}
+use Prim.Native.Nat.{ℕ, _+_, _-_, _≤_, _<_}
 use mathlib.Core.Path.{_≡_, refl, ap, sym, _∙_}
-use mathlib.Core.List.{List, _++_, append-assoc, append-nil}
+use mathlib.Core.List.{List, _++_, append-assoc}
 use native.Mathlib.Omega.{arith}
 use native.Mathlib.Decide.{decLt}
-use native.Mathlib.Nat.{sub-self, sub-zero, le-of-lt}
-use native.Mathlib.Numerals.{add-one}
+use native.Mathlib.Nat.{sub-self}
 use borrow.Rule.Slice.PartMut.{putMid}
-use lib.ListN.{length, take, drop, getD, set, take-append-drop, List·getD-append, length-append, length-take, length-drop, length-set}
-use lib.Seq.{take-at, drop-at, drop-drop, drop-cons, drop-length, set-at, length-take-le, getD-drop, getD-take, getD-append-add, ext-getD}
+use lib.ListN.{length, take, drop, getD, set, take-append-drop, List·getD-append, length-append, length-take, length-drop}
+use lib.Seq.{take-at, drop-at, drop-drop, length-take-le, getD-drop, getD-take, getD-append-add, ext-getD}
 use Rattle.lists.specs.Tabulate.{tabulate, written}
 use Rattle.lists.proofs.Tabulate.{length-tabulate, getD-tabulate, tabulate-append}
 
@@ -25,11 +24,6 @@ getD-past d xs ys k n e h =
 pub written-none : {A : Type 0} (f : ℕ → A) (a : ℕ) (l : List A) → written f a a l ≡ l
 unfolding written
 written-none f a l = rw (sub-self, take-append-drop)
-
--- a list that is set from end to end
-pub written-all : {A : Type 0} (f : ℕ → A) (l : List A) → written f 0 (length l) l ≡ tabulate f 0 (length l)
-unfolding written
-written-all f l = rw (sub-zero, drop-length l, append-nil)
 
 module _ {A : Type 0} (f : ℕ → A) (a b : ℕ) (l : List A) (order : a ≤ b) (room : b ≤ length l) where
   front : List A
@@ -72,12 +66,6 @@ module _ {A : Type 0} (f : ℕ → A) (a b : ℕ) (l : List A) (order : a ≤ b)
   unfolding front
   longer n rest =
       rw (append-assoc, ← (append-assoc (tabulate f a (b - a)) (tabulate f b n) rest), seam (b - a) n (b + n - a) (omega arith) (omega arith))
-
-  -- one place more is set
-  pub written-turn : {v : A} → b < length l → v ≡ f b → set (written f a b l) b v ≡ written f a (b + 1) l
-  unfolding written
-  written-turn {v} h e =
-      rw (split, drop-cons l b v h, set-at front (getD l b v) (drop (suc b) l) v b length-front, e, add-one b) (rw (add-one b) at (longer 1 (drop (suc b) l)))
 
   -- a part that was lent comes back set
   pub written-part : (n : ℕ) (part : List A) → b + n ≤ length l → part ≡ tabulate f b n
@@ -122,17 +110,6 @@ pub run-start : {A : Type 0} {f : ℕ → A} {a : ℕ} {l : List A} → Run f a 
 run-start {f = f} {a} {l} = record { is = sym (written-none f a l); len = refl; order = omega arith }
 
 module _ {A : Type 0} {f : ℕ → A} {a : ℕ} {l₀ l : List A} {b : ℕ} (r : Run f a l₀ l b) where
-  pub run-turn : {v : A} → b < length l₀ → v ≡ f b → Run f a l₀ (set l b v) (b + 1)
-  run-turn {v} h e = record {
-    is = rw (r .is) (written-turn f a b l₀ (r .order) (le-of-lt h) h e);
-    len = length-set l b v ∙ r .len;
-    order = omega (arith, r .order);
-  }
-
-  -- a place that is still to come holds what it held
-  pub run-ahead : (d : A) (k : ℕ) → b ≤ length l₀ → b ≤ k → getD l k d ≡ getD l₀ k d
-  run-ahead d k h g = rw (r .is) (written-after f a b l₀ (r .order) h d k g)
-
   pub run-part : (n : ℕ) (part : List A) → b + n ≤ length l₀ → part ≡ tabulate f b n → Run f a l₀ (putMid b (b + n - b) l part) (b + n)
   run-part n part h e = record { is = back; len = ap length back ∙ length-written f a (b + n) l₀ (omega (arith, r .order)) h; order = omega (arith, r .order) }
     where

@@ -11,7 +11,7 @@ use Rattle.lists.specs.Members.{In}
 use Rattle.cycle.specs.Distance.{distance}
 use Rattle.cycle.specs.Step.{ahead}
 use Rattle.cycle.proofs.DistanceLaws.{distance-symmetric}
-use Rattle.cycle.proofs.Ways.{Way, Ahead, ahead-way, way-join, way-front, way-end, distance-way}
+use Rattle.cycle.proofs.Ways.{Way, WayAhead, ahead-way, way-join, way-front, way-end, distance-way}
 use Rattle.cycle.proofs.Ways.Way.{straight, round}
 use Rattle.median.specs.Sum.{sumAt, Ticks}
 
@@ -34,7 +34,7 @@ module _ {D k n p : ℕ} (hk : k < D) (hn : n < D) (hp : p < D) (next : Way D k 
   pub around : (z : ℕ) → z < D → (k ≡ z → ⊥) → (o : ℕ) × (r : ℕ) × Around D z k n p o r
   around z hz ne = go (ahead D z k) (ahead-way D z k hz hk)
     where
-      go : (e : ℕ) → Ahead D z k e → (o : ℕ) × (r : ℕ) × Around D z k n p o r
+      go : (e : ℕ) → WayAhead D z k e → (o : ℕ) × (r : ℕ) × Around D z k n p o r
       go zero a = absurd (ne (way-end hk hz (a .way) (straight (omega arith))))
       go (suc o) a = (o, D - suc (suc o), around-way hz (omega (arith, a .less)) (a .way))
 
@@ -58,7 +58,7 @@ total (z ∷ zs) = z + total zs
 distance-even : (h k z : ℕ) → k < 2 * h → z < 2 * h → (distance (2 * h) k z + k + z) % 2 ≡ 0
 distance-even h k z a b = go (r .way)
   where
-    r : Ahead (2 * h) k z (ahead (2 * h) k z)
+    r : WayAhead (2 * h) k z (ahead (2 * h) k z)
     r = ahead-way (2 * h) k z a b
 
     d : distance (2 * h) k z ≡ min (ahead (2 * h) k z) (2 * h - ahead (2 * h) k z)

@@ -11,7 +11,7 @@ use Rattle.cycle.specs.Distance.{distance}
 use Rattle.cycle.specs.Step.{ahead, isForward, stepOf, step}
 use Rattle.median.specs.Sum.{sumAt}
 use Rattle.median.specs.Choice.{rank, key, choose, chosen}
-use Rattle.median.specs.Examples.{Example, centre, Holds, examples}
+use Rattle.median.specs.Examples.{Example, middle, Agrees, examples}
 use Rattle.median.specs.Examples.Example.{window, steps}
 
 both : (a b : Bool) → T (a && b) → T a × T b
@@ -42,20 +42,20 @@ equal-is (negsuc m) (pos n) t = absurd t
 equal-is (negsuc m) (negsuc n) t = ap negsuc (eqb→eq m n t)
 
 right : Example → Bool
-right (window c zs q sums) = eqb (chosen c (centre zs) zs) q && every (λ s. eqb (sumAt c (s .tick) zs) (s .sum)) sums
+right (window c zs q sums) = eqb (chosen c (middle zs) zs) q && every (λ s. eqb (sumAt c (s .tick) zs) (s .sum)) sums
 right (steps c ss) = every (λ s. equal (step c (s .start) (s .end)) (s .step)) ss
 
-right-holds : (x : Example) → T (right x) → Holds x
+right-agrees : (x : Example) → T (right x) → Agrees x
 unfolding right
-right-holds (window c zs q sums) t =
-    let b = both (eqb (chosen c (centre zs) zs) q) (every (λ s. eqb (sumAt c (s .tick) zs) (s .sum)) sums) t in
+right-agrees (window c zs q sums) t =
+    let b = both (eqb (chosen c (middle zs) zs) q) (every (λ s. eqb (sumAt c (s .tick) zs) (s .sum)) sums) t in
     (eqb→eq _ q (b .0), sound (λ s. sumAt c (s .tick) zs ≡ s .sum) (λ s. eqb (sumAt c (s .tick) zs) (s .sum)) (λ s. eqb→eq _ (s .sum)) sums (b .1))
-right-holds (steps c ss) t =
+right-agrees (steps c ss) t =
     sound (λ s. step c (s .start) (s .end) ≡ s .step) (λ s. equal (step c (s .start) (s .end)) (s .step)) (λ s. equal-is _ (s .step)) ss t
 
 computed : T (every right examples)
 unfolding every right equal examples chosen choose key rank sumAt leastOf leastFrom distance step stepOf isForward ahead
 computed = tt
 
-pub examples-hold : Each Holds examples
-examples-hold = sound Holds right right-holds examples computed
+pub examples-agree : Each Agrees examples
+examples-agree = sound Agrees right right-agrees examples computed

@@ -8,7 +8,7 @@ use borrow.Author.Tests.{eq-eqb, ne-eqb}
 use Rattle.cycle.specs.Distance.{distance}
 use Rattle.cycle.specs.Step.{ahead}
 use Rattle.cycle.proofs.DistanceLaws.{distance-half}
-use Rattle.cycle.proofs.Ways.{Way, Ahead, ahead-way, way-end, way-start, way-back, way-mod, mod-way, distance-way}
+use Rattle.cycle.proofs.Ways.{Way, WayAhead, ahead-way, way-end, way-start, way-back, way-mod, mod-way, distance-way}
 use Rattle.median.specs.Choice.{rank}
 
 -- the first of the two ticks at a distance is the one ahead
@@ -24,7 +24,7 @@ rank-behind c a q e = rw (ne-eqb _ _ e)
 pub reached : (c a q : ℕ) → a < c → q < c → Way c a q (distance c a q) ⊎ Way c q a (distance c a q)
 reached c a q h g = go (decLe (ahead c a q) (c - ahead c a q))
   where
-    r : Ahead c a q (ahead c a q)
+    r : WayAhead c a q (ahead c a q)
     r = ahead-way c a q h g
 
     d : distance c a q ≡ min (ahead c a q) (c - ahead c a q)

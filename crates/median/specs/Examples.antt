@@ -26,13 +26,13 @@ pub data Example : Type 0 where
   steps : (cycle : ℕ) → List StepOf → Example
 
 -- "centre in the middle"
-abbrev pub centre : List ℕ → ℕ
-centre readings = getD readings (length readings / 2) 0
+abbrev pub middle : List ℕ → ℕ
+middle readings = getD readings (length readings / 2) 0
 
 -- what an example says
-abbrev pub Holds : Example → Type 0
-Holds (window c readings phase sums) = (chosen c (centre readings) readings ≡ phase) × Each (λ s. sumAt c (s .tick) readings ≡ s .sum) sums
-Holds (steps c ss) = Each (λ s. step c (s .start) (s .end) ≡ s .step) ss
+abbrev pub Agrees : Example → Type 0
+Agrees (window c readings phase sums) = (chosen c (middle readings) readings ≡ phase) × Each (λ s. sumAt c (s .tick) readings ≡ s .sum) sums
+Agrees (steps c ss) = Each (λ s. step c (s .start) (s .end) ≡ s .step) ss
 
 abbrev pub sum-of : ℕ → ℕ → SumOf
 sum-of tick sum = record { tick = tick; sum = sum }

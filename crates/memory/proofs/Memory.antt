@@ -1,4 +1,4 @@
--- Laws of changed parts of memory: one store more. Assumes nothing.
+-- Laws of changed parts of memory: one store more, a part changed again, parts beside it. Assumes nothing.
 use Prim.Native.Nat.{ℕ, _+_, _≤_, _<_}
 use mathlib.Core.Path.{_≡_, refl, ap, sym, _∙_}
 use mathlib.Core.List.{List}
@@ -7,6 +7,7 @@ use native.Mathlib.Decide.{ℕ-discrete}
 use native.Mathlib.Nat.{zero-add}
 use lib.ListN.{length, getD, set, length-set}
 use lib.Seq.{getD-set-same, getD-set-other}
+use Rattle.lists.specs.Difference.{adjusted}
 use Rattle.memory.specs.Memory.{Holds, Changed, Outside, ChangedBoth}
 
 -- a part with one number more
@@ -32,6 +33,13 @@ module _ {w₀ : List ℕ} {base : ℕ} {f : ℕ → ℕ} where
   -- the loop has come to the end
   pub changed-done : {w : List ℕ} {q n : ℕ} → Changed w₀ w base q f → q ≡ n → Changed w₀ w base n f
   changed-done c e = rw e at c
+
+-- a part of which each number has x added to it and y taken off, one number further on
+pub changed-adjusted : {w₀ w : List ℕ} {base q v : ℕ} (x y : ℕ → ℕ) → Changed w₀ w base q (λ k. adjusted (getD w₀ (base + k) 0) (x k) (y k))
+    → base + q < length w₀ → v ≡ adjusted (getD w (base + q) 0) (x q) (y q)
+    → Changed w₀ (set w (base + q) v) base (q + 1) (λ k. adjusted (getD w₀ (base + k) 0) (x k) (y k))
+changed-adjusted {base = base} {q = q} x y c room e =
+    changed-turn c room (e ∙ ap (λ (d : ℕ). adjusted d (x q) (y q)) (c .after (base + q) (omega arith)))
 
 -- the same for a part that starts at place 0
 pub changed-turn-first : {w₀ w : List ℕ} {f : ℕ → ℕ} {q v : ℕ} → Changed w₀ w 0 q f → q < length w₀ → v ≡ f q → Changed w₀ (set w q v) 0 (q + 1) f

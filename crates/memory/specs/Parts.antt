@@ -7,13 +7,13 @@ use Rattle.lists.specs.Difference.{adjusted}
 abbrev pub zeros : ℕ → ℕ
 zeros q = 0
 
--- the part of w at base with the part of the table at `come` added, modulo 2 ^ 32
+-- the part of w at base with the part of the table at `entering` added, modulo 2 ^ 32
 abbrev pub added : List ℕ → ℕ → List ℕ → ℕ → ℕ → ℕ
-added w base table come q = adjusted (getD w (base + q) 0) (getD table (come + q) 0) 0
+added w base table entering q = adjusted (getD w (base + q) 0) (getD table (entering + q) 0) 0
 
--- the same, with the part at `go` taken off
+-- the same, with the part at `leaving` taken off
 abbrev pub swapped : List ℕ → ℕ → List ℕ → ℕ → ℕ → ℕ → ℕ
-swapped w base table come go q = adjusted (getD w (base + q) 0) (getD table (come + q) 0) (getD table (go + q) 0)
+swapped w base table entering leaving q = adjusted (getD w (base + q) 0) (getD table (entering + q) 0) (getD table (leaving + q) 0)
 
 -- two parts added and two taken off
 abbrev pub turned : List ℕ → ℕ → List ℕ → ℕ → ℕ → ℕ → ℕ → ℕ → ℕ

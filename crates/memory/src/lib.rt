@@ -37,38 +37,38 @@ pub fn copy(work: &mut [u32], to: usize, start: usize, n: usize)
 }
 
 // Adds n numbers of a table.
-pub fn add(work: &mut [u32], base: usize, table: &[u32], come: usize, n: usize)
-    requires { ⌜ (base + n ≤ length (now work)) × (come + n ≤ length (now table)) ⌝ }
-    ensures { λ _. ⌜ Changed (now (work .entry)) (now (work .exit)) base n (added (now (work .entry)) base (now (table .entry)) come) ⌝ }
+pub fn add(work: &mut [u32], base: usize, table: &[u32], entering: usize, n: usize)
+    requires { ⌜ (base + n ≤ length (now work)) × (entering + n ≤ length (now table)) ⌝ }
+    ensures { λ _. ⌜ Changed (now (work .entry)) (now (work .exit)) base n (added (now (work .entry)) base (now (table .entry)) entering) ⌝ }
 {
     let mut q = 0;
     while q < n {
-        work[base + q] = wrapping_add_u32(work[base + q], table[come + q]);
+        work[base + q] = wrapping_add_u32(work[base + q], table[entering + q]);
         q += 1;
     }
 }
 
 // Puts n numbers of a table in place of those that are there.
-pub fn put(work: &mut [u32], base: usize, table: &[u32], come: usize, n: usize)
-    requires { ⌜ (base + n ≤ length (now work)) × (come + n ≤ length (now table)) ⌝ }
-    ensures { λ _. ⌜ Changed (now (work .entry)) (now (work .exit)) base n (copied (now (table .entry)) come) ⌝ }
+pub fn put(work: &mut [u32], base: usize, table: &[u32], start: usize, n: usize)
+    requires { ⌜ (base + n ≤ length (now work)) × (start + n ≤ length (now table)) ⌝ }
+    ensures { λ _. ⌜ Changed (now (work .entry)) (now (work .exit)) base n (copied (now (table .entry)) start) ⌝ }
 {
     let mut q = 0;
     while q < n {
-        work[base + q] = table[come + q];
+        work[base + q] = table[start + q];
         q += 1;
     }
 }
 
 // Adds n numbers of a table and takes n others off.
-pub fn swap(work: &mut [u32], base: usize, table: &[u32], come: usize, go: usize, n: usize)
-    requires { ⌜ (base + n ≤ length (now work)) × (come + n ≤ length (now table)) × (go + n ≤ length (now table)) ⌝ }
-    ensures { λ _. ⌜ Changed (now (work .entry)) (now (work .exit)) base n (swapped (now (work .entry)) base (now (table .entry)) come go) ⌝ }
+pub fn swap(work: &mut [u32], base: usize, table: &[u32], entering: usize, leaving: usize, n: usize)
+    requires { ⌜ (base + n ≤ length (now work)) × (entering + n ≤ length (now table)) × (leaving + n ≤ length (now table)) ⌝ }
+    ensures { λ _. ⌜ Changed (now (work .entry)) (now (work .exit)) base n (swapped (now (work .entry)) base (now (table .entry)) entering leaving) ⌝ }
 {
     let mut q = 0;
     while q < n {
-        let more = wrapping_add_u32(work[base + q], table[come + q]);
-        work[base + q] = wrapping_sub_u32(more, table[go + q]);
+        let more = wrapping_add_u32(work[base + q], table[entering + q]);
+        work[base + q] = wrapping_sub_u32(more, table[leaving + q]);
         q += 1;
     }
 }
@@ -121,9 +121,9 @@ pub fn turn(
     let mut q = 0;
     while q < n {
         let more = wrapping_add_u32(work[change + q], table[in1 + q] + table[in2 + q]);
-        let z = wrapping_sub_u32(more, table[out1 + q] + table[out2 + q]);
-        work[change + q] = z;
-        let sum = wrapping_add_u32(work[base + q], z);
+        let difference = wrapping_sub_u32(more, table[out1 + q] + table[out2 + q]);
+        work[change + q] = difference;
+        let sum = wrapping_add_u32(work[base + q], difference);
         work[base + q] = sum;
         least = lower(sum, least);
         q += 1;

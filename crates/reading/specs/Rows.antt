@@ -3,7 +3,7 @@ use Prim.Native.Nat.{ℕ, _+_, _-_, _<_}
 use mathlib.Core.List.{List}
 use Rattle.shape.specs.declared.Shape.{Shape}
 use Rattle.lines.specs.Lines.{IsLine}
-use Rattle.reading_planes.specs.Sums.{RowSums}
+use Rattle.reading_planes.specs.Sums.{MaskSums}
 
 -- memory for the lines of rows
 pub record Lined (own last row other centres : List ℕ) : Type 0 where
@@ -17,4 +17,4 @@ pub record Lined (own last row other centres : List ℕ) : Type 0 where
 pub record Kept (s : Shape) (image : List ℕ) (i kept : ℕ) (w : List ℕ) : Type 0 where
   pub some-left : kept < s .«mask_rows»
   pub begun : 0 < kept → 0 < i
-  pub sums : RowSums s image (i - 1) w i (i + kept)
+  pub sums : MaskSums s image (i - 1) w i (i + kept)

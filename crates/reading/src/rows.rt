@@ -13,11 +13,12 @@ ghost use Prim.Native.Nat.{_+_, _-_, _*_, _≤_, _<_};
 ghost use lib.ListN.{length};
 ghost use Rattle.lists.specs.Tabulate.{tabulate};
 ghost use Rattle.refusal.specs.Limits.{longestCycle};
+ghost use Rattle.shape.specs.Need.{readingNeed};
 ghost use Rattle.memory.specs.Memory.{Outside};
 ghost use Rattle.window.specs.Phase.{phaseAt};
 ghost use Rattle.lines.specs.Lines.{IsLine, Line, Centres};
-ghost use Rattle.lines.specs.Rows.{Fillable, Filled};
-ghost use Rattle.reading_planes.specs.Sums.{Given, RowSums, need};
+ghost use Rattle.lines.specs.Rows.{Fillable, Filled, Given};
+ghost use Rattle.reading_planes.specs.Sums.{MaskSums};
 ghost use Rattle.reading_choice.specs.Weighed.{RowWeighed};
 ghost use Rattle.reading_turns.specs.Scratch.{Scratch};
 ghost use Rattle.reading.specs.Rows.{Lined, Kept};
@@ -38,11 +39,11 @@ fn carry_rows(
     least: &mut [u32],
     nearest: &mut [u32],
 )
-    requires { ⌜ Given shape (now image) (length (now work)) × (i < shape .rows) × Kept shape (now image) i kept (now work) ⌝ }
+    requires { ⌜ Given longestCycle readingNeed shape (now image) (length (now work)) × (i < shape .rows) × Kept shape (now image) i kept (now work) ⌝ }
     requires { ⌜ IsLine (now own) × Line shape (now image) (i + shape .«mask_rows» - 1) (now entering) × IsLine (now leaving) ⌝ }
     requires { ⌜ Centres shape (now image) i (now centres) × Scratch (now change) (now step) (now least) (now nearest) ⌝ }
     requires { ⌜ RowWeighed shape (now image) i 0 0 (now least) (now nearest) ⌝ }
-    ensures { λ _. ⌜ RowSums shape (now (image .entry)) i (now (work .exit)) i (i + kept) × Outside (now (work .entry)) (now (work .exit)) 0 (need shape) ⌝ }
+    ensures { λ _. ⌜ MaskSums shape (now (image .entry)) i (now (work .exit)) i (i + kept) × Outside (now (work .entry)) (now (work .exit)) 0 (readingNeed shape) ⌝ }
     ensures { λ _. ⌜ RowWeighed shape (now (image .entry)) i kept 0 (now (least .exit)) (now (nearest .exit)) ⌝ }
 {
     if kept == 0 {
@@ -87,12 +88,12 @@ fn build_rows(
     least: &mut [u32],
     nearest: &mut [u32],
 )
-    requires { ⌜ Given shape (now image) (length (now work)) × (i < shape .rows) × (kept ≤ shape .«mask_rows») ⌝ }
+    requires { ⌜ Given longestCycle readingNeed shape (now image) (length (now work)) × (i < shape .rows) × (kept ≤ shape .«mask_rows») ⌝ }
     requires { ⌜ IsLine (now own) × Line shape (now image) (i + shape .«mask_rows» - 1) (now last) × IsLine (now row) × IsLine (now other) ⌝ }
     requires { ⌜ Centres shape (now image) i (now centres) × Scratch (now change) (now step) (now least) (now nearest) ⌝ }
-    requires { ⌜ RowSums shape (now image) i (now work) i (i + kept) × RowWeighed shape (now image) i kept 0 (now least) (now nearest) ⌝ }
-    ensures { λ _. ⌜ RowSums shape (now (image .entry)) i (now (work .exit)) i (i + shape .«mask_rows»)
-        × Outside (now (work .entry)) (now (work .exit)) 0 (need shape) ⌝ }
+    requires { ⌜ MaskSums shape (now image) i (now work) i (i + kept) × RowWeighed shape (now image) i kept 0 (now least) (now nearest) ⌝ }
+    ensures { λ _. ⌜ MaskSums shape (now (image .entry)) i (now (work .exit)) i (i + shape .«mask_rows»)
+        × Outside (now (work .entry)) (now (work .exit)) 0 (readingNeed shape) ⌝ }
     ensures { λ _. ⌜ RowWeighed shape (now (image .entry)) i (shape .«mask_rows») 0 (now (least .exit)) (now (nearest .exit)) ⌝ }
 {
     let rows = shape.mask_rows as usize;
@@ -136,11 +137,11 @@ fn one_row(
     nearest: &mut [u32],
     out: &mut [u16],
 )
-    requires { ⌜ Given shape (now image) (length (now work)) × (i < shape .rows) × Kept shape (now image) i kept (now work) × (length (now out) ≡ shape .columns) ⌝ }
+    requires { ⌜ Given longestCycle readingNeed shape (now image) (length (now work)) × (i < shape .rows) × Kept shape (now image) i kept (now work) × (length (now out) ≡ shape .columns) ⌝ }
     requires { ⌜ Lined (now own) (now last) (now row) (now other) (now centre) × Scratch (now change) (now step) (now least) (now nearest) ⌝ }
     ensures { λ _. ⌜ now (out .exit) ≡ tabulate (phaseAt shape (now (image .entry))) (i * shape .columns) (shape .columns) ⌝ }
-    ensures { λ _. ⌜ RowSums shape (now (image .entry)) i (now (work .exit)) i (i + shape .«mask_rows»)
-        × Outside (now (work .entry)) (now (work .exit)) 0 (need shape) ⌝ }
+    ensures { λ _. ⌜ MaskSums shape (now (image .entry)) i (now (work .exit)) i (i + shape .«mask_rows»)
+        × Outside (now (work .entry)) (now (work .exit)) 0 (readingNeed shape) ⌝ }
 {
     let columns = shape.columns as usize;
     centres(shape, image, i, centre);
@@ -198,9 +199,9 @@ fn each_row(
     least: &mut [u32],
     nearest: &mut [u32],
 )
-    requires { ⌜ Fillable longestCycle need shape (now image) first end (length (now output)) (length (now work)) ⌝ }
+    requires { ⌜ Fillable longestCycle readingNeed shape (now image) first end (length (now output)) (length (now work)) ⌝ }
     requires { ⌜ Lined (now own) (now entering) (now leaving) (now other) (now centre) × Scratch (now change) (now step) (now least) (now nearest) ⌝ }
-    ensures { λ _. ⌜ Filled need shape (now (image .entry)) first end (now (output .entry)) (now (output .exit)) (now (work .entry)) (now (work .exit)) ⌝ }
+    ensures { λ _. ⌜ Filled readingNeed shape (now (image .entry)) first end (now (output .entry)) (now (output .exit)) (now (work .entry)) (now (work .exit)) ⌝ }
 {
     let columns = shape.columns as usize;
     let mut next = first;
@@ -239,8 +240,8 @@ fn with_lines(
     output: &mut [u16],
     work: &mut [u32],
 )
-    requires { ⌜ Fillable longestCycle need shape (now image) first end (length (now output)) (length (now work)) ⌝ }
-    ensures { λ _. ⌜ Filled need shape (now (image .entry)) first end (now (output .entry)) (now (output .exit)) (now (work .entry)) (now (work .exit)) ⌝ }
+    requires { ⌜ Fillable longestCycle readingNeed shape (now image) first end (length (now output)) (length (now work)) ⌝ }
+    ensures { λ _. ⌜ Filled readingNeed shape (now (image .entry)) first end (now (output .entry)) (now (output .exit)) (now (work .entry)) (now (work .exit)) ⌝ }
 {
     let mut own = [0u16; LINE];
     let mut entering = [0u16; LINE];
@@ -280,8 +281,8 @@ pub fn fill(
     output: &mut [u16],
     work: &mut [u32],
 )
-    requires { ⌜ Fillable longestCycle need shape (now image) first end (length (now output)) (length (now work)) ⌝ }
-    ensures { λ _. ⌜ Filled need shape (now (image .entry)) first end (now (output .entry)) (now (output .exit)) (now (work .entry)) (now (work .exit)) ⌝ }
+    requires { ⌜ Fillable longestCycle readingNeed shape (now image) first end (length (now output)) (length (now work)) ⌝ }
+    ensures { λ _. ⌜ Filled readingNeed shape (now (image .entry)) first end (now (output .entry)) (now (output .exit)) (now (work .entry)) (now (work .exit)) ⌝ }
 {
     with_lines(shape, first, end, image, output, work);
     if end < first {

@@ -11,14 +11,14 @@ use borrow.Author.Tests.{le-leb, lt-leb, eq-eqb, ne-eqb}
 use Rattle.refusal.specs.Limits.{longestCycle}
 use Rattle.cycle.specs.Distance.{distance}
 use Rattle.cycle.specs.Step.{ahead}
-use Rattle.cycle.proofs.Ways.{Way, Ahead, ahead-way, ahead-only, way-only, way-mod, mod-way, mod-high, distance-way}
+use Rattle.cycle.proofs.Ways.{Way, WayAhead, ahead-way, ahead-only, way-only, way-mod, mod-way, mod-high, distance-way}
 use Rattle.cycle.proofs.Ways.Way.{straight, round}
 use Rattle.median.specs.Choice.{rank}
 use Rattle.median.proofs.Rank.{rank-ahead, rank-behind}
 use Rattle.reading_choice.specs.Ranks.{wayTo, rankBy, rankOf, tickOf}
 
 module _ (c a q : ℕ) (h : a < c) (g : q < c) where
-  there : Ahead c a q (ahead c a q)
+  there : WayAhead c a q (ahead c a q)
   there = ahead-way c a q h g
 
   shorter : distance c a q ≡ min (ahead c a q) (c - ahead c a q)

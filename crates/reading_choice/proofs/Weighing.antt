@@ -1,4 +1,5 @@
--- Weighing in one window: a reading more, and what is kept when every reading is weighed. Assumes nothing.
+-- Weighing in one window: a reading more, and what is kept when every reading is weighed. A sum and its rank are one number, the key, in which
+-- the sum outweighs every rank; the lowest key is kept. Assumes nothing.
 use Prim.Native.Nat.{ℕ, _+_, _*_, _^_, _≤_, _<_}
 use mathlib.Core.Path.{_≡_, refl, ap, subst, _∙_}
 use mathlib.Core.Logic.{_⊎_, inl, inr}

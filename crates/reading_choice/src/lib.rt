@@ -15,11 +15,9 @@ ghost use Prim.Native.Nat.{ℕ, _+_, _-_, _/_, _%_, _^_, _≤_, _<_};
 ghost use lib.Dec.{leb, eqb};
 ghost use lib.ListN.{length, getD};
 ghost use Rattle.refusal.specs.Limits.{longestCycle};
-ghost use Rattle.refusal.specs.Outcome.{Clear};
-ghost use Rattle.shape.specs.Rules.{shapeRules};
 ghost use Rattle.memory.specs.Memory.{Changed, Signed};
 ghost use Rattle.memory.specs.Parts.{copied};
-ghost use Rattle.lines.specs.Lines.{IsLine};
+ghost use Rattle.reading_choice.specs.Weighable.{Weighable};
 ghost use Rattle.reading_choice.specs.Ranks.{wayTo, rankOf, ranked, unweighedSum, unweighedRank, lowerPair, keptSum, keptRank, tickOf, tickAt};
 
 // The cycle to add to q - a, so that it counts ticks ahead: none where q is not behind a.
@@ -133,9 +131,7 @@ pub fn weigh(
     least: &mut [u32],
     nearest: &mut [u32],
 )
-    requires { ⌜ Clear (shapeRules longestCycle shape) × (l < shape .«mask_columns») × (plane + shape .columns ≤ length (now work)) ⌝ }
-    requires { ⌜ IsLine (now own) × IsLine (now centres) × IsLine (now rank) × IsLine (now least) × IsLine (now nearest) ⌝ }
-    requires { ⌜ Signed (copied (now work) plane) (shape .columns) × Signed (copied (now least) 0) (shape .columns) × Signed (copied (now nearest) 0) (shape .columns) ⌝ }
+    requires { ⌜ Weighable shape (now work) plane l (now own) (now centres) (now rank) (now least) (now nearest) ⌝ }
     ensures { λ _. ⌜ Changed (now (least .entry)) (now (least .exit)) 0 (shape .columns)
         (keptSum (now (work .entry)) plane (ranked (shape .cycle) (now (centres .entry)) (now (own .entry)) l) (now (least .entry)) (now (nearest .entry))) ⌝ }
     ensures { λ _. ⌜ Changed (now (nearest .entry)) (now (nearest .exit)) 0 (shape .columns)

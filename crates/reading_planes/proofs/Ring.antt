@@ -7,11 +7,12 @@ use native.Mathlib.Omega.{arith}
 use native.Mathlib.Decide.{decLe, decLt, ℕ-discrete}
 use native.Mathlib.Nat.{mod-lt, div-add-mod, mul-le-mul-left, mul-le-mul-right, mul-assoc}
 use lib.ListN.{getD}
+use Rattle.shape.specs.Need.{readingNeed}
 use Rattle.shape.specs.declared.Shape.{Shape}
 use Rattle.memory.specs.Memory.{Outside}
 use Rattle.window.proofs.Window.{spot-below}
 use Rattle.reading_planes.specs.Planes.{planes}
-use Rattle.reading_planes.specs.Sums.{need, place, LineSums, RowSums}
+use Rattle.reading_planes.specs.Sums.{place, LineSums, MaskSums}
 
 -- two of m numbers in a row leave different remainders
 ring-step : (m a b : ℕ) → a < b → b < a + m → a % m ≡ b % m → ⊥
@@ -43,7 +44,7 @@ parts-apart n x y ne = go (decLt x y)
     go (no l) = let h : y < x = omega arith in inr (omega (arith, mul-le-mul-right n h))
 
 -- all planes lie within the need
-pub place-room : (s : Shape) (a : ℕ) → 0 < s .«mask_rows» → place s a + planes s ≤ need s
+pub place-room : (s : Shape) (a : ℕ) → 0 < s .«mask_rows» → place s a + planes s ≤ readingNeed s
 place-room s a h =
     let r : suc (a % s .«mask_rows») ≤ s .«mask_rows» = mod-lt a h in
     omega (arith, mul-le-mul-right (planes s) r, mul-assoc (s .«mask_rows») (s .«mask_columns») (s .columns))
@@ -54,7 +55,7 @@ outside-at e x = rw e at x
 
 module _ (s : Shape) {w w′ : List ℕ} (a : ℕ) (x : Outside w w′ (place s a) (planes s)) where
   -- the planes of one position changed: nothing past the need did
-  pub outside-need : 0 < s .«mask_rows» → Outside w w′ 0 (need s)
+  pub outside-need : 0 < s .«mask_rows» → Outside w w′ 0 (readingNeed s)
   outside-need h = record {
     len = x .len;
     before = λ k l. absurd (omega arith);
@@ -78,8 +79,8 @@ module _ (s : Shape) {w w′ : List ℕ} (a : ℕ) (x : Outside w w′ (place s 
           go (inr r) = x .after _ (omega (arith, inside))
 
 -- the planes of one position more hold the sums of row i
-pub sums-more : (s : Shape) (image : List ℕ) {w w′ : List ℕ} (i lo hi : ℕ) → RowSums s image i w lo hi → lo ≤ hi → hi < lo + s .«mask_rows»
-    → LineSums s image i w′ hi → Outside w w′ (place s hi) (planes s) → RowSums s image i w′ lo (hi + 1)
+pub sums-more : (s : Shape) (image : List ℕ) {w w′ : List ℕ} (i lo hi : ℕ) → MaskSums s image i w lo hi → lo ≤ hi → hi < lo + s .«mask_rows»
+    → LineSums s image i w′ hi → Outside w w′ (place s hi) (planes s) → MaskSums s image i w′ lo (hi + 1)
 sums-more s image {w} {w′} i lo hi r p q new x a u v = go (ℕ-discrete a hi)
   where
     go : Dec (a ≡ hi) → LineSums s image i w′ a
@@ -87,7 +88,7 @@ sums-more s image {w} {w′} i lo hi r p q new x a u v = go (ℕ-discrete a hi)
     go (no e) = line-kept s hi x (r a u (omega arith)) (ring-apart (s .«mask_rows») lo a hi u (omega arith) p q e)
 
 -- and one position fewer holds those of the row before
-pub sums-less : (s : Shape) (image : List ℕ) {w w′ : List ℕ} (i lo hi : ℕ) → RowSums s image i w lo hi → hi ≤ lo + s .«mask_rows»
-    → Outside w w′ (place s lo) (planes s) → RowSums s image i w′ (lo + 1) hi
+pub sums-less : (s : Shape) (image : List ℕ) {w w′ : List ℕ} (i lo hi : ℕ) → MaskSums s image i w lo hi → hi ≤ lo + s .«mask_rows»
+    → Outside w w′ (place s lo) (planes s) → MaskSums s image i w′ (lo + 1) hi
 sums-less s image i lo hi r p x a u v =
     line-kept s lo x (r a (omega arith) v) (ring-apart (s .«mask_rows») lo a lo (omega arith) (omega arith) (omega arith) (omega arith) (omega arith))

@@ -1,4 +1,5 @@
--- The sums at the readings of a line: built afresh, and carried down from the row above. Assumes nothing.
+-- The sums at the readings of a line: built afresh, and carried down from the row above. Either way what a reading gains over the columns
+-- of a window is what the window's rows add to its sum. Assumes nothing.
 use Prim.Native.Nat.{ℕ, _+_, _-_, _*_, _%_, _^_, _≤_, _<_}
 use mathlib.Core.Path.{_≡_, ap, sym, _∙_}
 use mathlib.Core.List.{List}
@@ -7,6 +8,7 @@ use native.Mathlib.Nat.{add-zero, mod-lt, mul-le-mul}
 use lib.ListN.{getD}
 use Rattle.lists.specs.Tabulate.{tabulate}
 use Rattle.lists.specs.Total.{totalFrom}
+use Rattle.lists.proofs.Parts.{part-end}
 use Rattle.lists.proofs.Total.{total-places, total-zeros, total-from-cong}
 use Rattle.lists.proofs.Difference.{difference-is}
 use Rattle.refusal.specs.Limits.{longestCycle, mostColumns, mostMaskRows, mostMaskColumns}
@@ -19,14 +21,22 @@ use Rattle.window.specs.Window.{padded, stretch, window}
 use Rattle.window.specs.Ready.{Ready}
 use Rattle.window.proofs.Window.{padded-below, shares-small}
 use Rattle.window.proofs.Sums.{change, sum-down, total-columns}
-use Rattle.lines.specs.Lines.{Line, paddedLength}
+use Rattle.lines.specs.Lines.{Line, lineLength, paddedLength}
 use Rattle.reading_lines.specs.Passes.{ofLine}
 use Rattle.reading_planes.specs.Planes.{Gain, ofRows, none, whole, planes}
-use Rattle.reading_planes.specs.Sums.{Given, place, readingSum}
+use Rattle.reading_planes.specs.Sums.{place, readingSum}
+
+-- a plane lies within the planes
+pub plane-within : (s : Shape) (l : ℕ) → l < s .«mask_columns» → l * s .columns + s .columns ≤ planes s
+plane-within s l h = part-end l (s .«mask_columns») (s .columns) h
 
 module _ (s : Shape) (clear : Clear (shapeRules longestCycle s)) where
   pub sizes : Accepted longestCycle s
   sizes = shape-clear longestCycle s clear
+
+  -- lines have room for what the sweeps go over
+  pub line-room : s .columns + s .«mask_columns» ≤ lineLength
+  line-room = omega (arith, sizes .columns-fit, sizes .mask-columns-fit)
 
   -- the planes of one position, and where they start, are small numbers
   pub planes-fit : planes s ≤ mostMaskColumns * mostColumns
@@ -70,8 +80,8 @@ module _ {s : Shape} {image : List ℕ} (ready : Ready longestCycle s image) {ow
       omega (arith, shares-small ready (omega arith) i j hi hj q tick)
 
   -- carried down by a row
-  pub sum-carried : {entering leaving : List ℕ} {i : ℕ} (start : Gain) → i + 1 < s .rows → Line s image (i + s .«mask_rows») entering → Line s image i leaving
-      → start l j ≡ readingSum s image i a l j
+  pub sum-carried : {entering leaving : List ℕ} {i : ℕ} (start : Gain) → i + 1 < s .rows → Line s image (i + s .«mask_rows») entering
+      → Line s image i leaving → start l j ≡ readingSum s image i a l j
       → whole s start (ofLine (s .cycle) own entering) (ofLine (s .cycle) own leaving) l j ≡ readingSum s image (i + 1) a l j
   unfolding change window
   sum-carried {i = i} start hi y z e =
@@ -100,7 +110,3 @@ module _ {s : Shape} {image : List ℕ} (ready : Ready longestCycle s image) {ow
   sum-built {i} hi =
       rw (gain-block i, total-zeros (tabulate (λ k. k) j (s .«mask_columns»)))
       (omega (arith, difference-is (readingSum s image i a l j) 0 _ (add-zero _) (small hi), small hi))
-
--- memory of the same length serves as well
-pub given-kept : {s : Shape} {image : List ℕ} {n m : ℕ} → Given s image n → m ≡ n → Given s image m
-given-kept g e = record { ready = g .ready; room = omega (arith, g .room) }

@@ -15,7 +15,7 @@ use Rattle.shape.specs.declared.Shape.{Shape}
 use Rattle.memory.specs.Memory.{Changed}
 use Rattle.memory.specs.Parts.{zeros}
 use Rattle.memory.proofs.Memory.{holds-before, holds-after}
-use Rattle.reading_planes.specs.Planes.{Gain, net, Counted, Ahead, Behind, Plane, front, whole, added, Fronts}
+use Rattle.reading_planes.specs.Planes.{Gain, net, Counted, Ahead, Behind, Plane, front, whole, gained, Fronts}
 
 module _ (gain loss : Gain) (p : ℕ) where
   net-none : (k : ℕ) → net gain loss p k 0 ≡ 0
@@ -123,7 +123,7 @@ module _ (s : Shape) (gain loss : Gain) where
             first m e = rw e (λ j g. r .holds 0 (omega arith) h j g ∙ front-first j ∙ sums 0 j h g)
 
         pub swept-more : {w w′ : List ℕ} (l : ℕ) → l + 1 < s .«mask_columns» → Swept w l
-            → Changed w w′ (base + (l + 1) * s .columns) (s .columns) (added w (base + (l + 1) * s .columns) gain loss (l + 1)) → Swept w′ (l + 1)
+            → Changed w w′ (base + (l + 1) * s .columns) (s .columns) (gained w (base + (l + 1) * s .columns) gain loss (l + 1)) → Swept w′ (l + 1)
         swept-more {w} {w′} l h r c = record { done = λ m k. go m (decLe m l) k; left = record { holds = rest } }
           where
             now : Plane s w′ base (l + 1) (f (l + 1))

@@ -58,8 +58,8 @@ abbrev pub whole : Shape → Gain → Gain → Gain → ℕ → ℕ → ℕ
 whole s start gain loss l j = (start l j + net gain loss (l + j) j (s .«mask_columns»)) % 2 ^ 32
 
 -- the numbers from `plane` on with l columns behind their places counted
-abbrev pub added : List ℕ → ℕ → Gain → Gain → ℕ → ℕ → ℕ
-added w plane gain loss l j = (getD w (plane + j) 0 + net gain loss (l + j) j l) % 2 ^ 32
+abbrev pub gained : List ℕ → ℕ → Gain → Gain → ℕ → ℕ → ℕ
+gained w plane gain loss l j = (getD w (plane + j) 0 + net gain loss (l + j) j l) % 2 ^ 32
 
 -- the planes from lo on after the sweep ahead
 pub record Fronts (s : Shape) (w : List ℕ) (base : ℕ) (start gain loss : Gain) (lo : ℕ) : Type 0 where

@@ -2,20 +2,10 @@
 -- position a are at (a modulo R) T N, so that the row that leaves gives its planes to the row that enters. Internal to the engine.
 use Prim.Native.Nat.{ℕ, _+_, _*_, _%_, _≤_, _<_}
 use mathlib.Core.List.{List}
-use Rattle.refusal.specs.Limits.{longestCycle}
 use Rattle.shape.specs.declared.Shape.{Shape}
 use Rattle.median.specs.Sum.{shares}
 use Rattle.window.specs.Window.{padded, window}
-use Rattle.lines.specs.Rows as Rows
 use Rattle.reading_planes.specs.Planes.{planes, Plane}
-
--- the numbers of work memory that the engine needs
-abbrev pub need : Shape → ℕ
-need s = s .«mask_rows» * s .«mask_columns» * (s .columns + 1)
-
--- what the engine is given
-abbrev pub Given : Shape → List ℕ → ℕ → Type 0
-Given = Rows.Given longestCycle need
 
 -- where the planes of the row at position a are
 abbrev pub place : Shape → ℕ → ℕ
@@ -30,5 +20,5 @@ pub record LineSums (s : Shape) (image : List ℕ) (i : ℕ) (w : List ℕ) (a :
   pub holds : (l : ℕ) → l < s .«mask_columns» → Plane s w (place s a) l (readingSum s image i a l)
 
 -- so do those of the positions from lo up to hi
-abbrev pub RowSums : Shape → List ℕ → ℕ → List ℕ → ℕ → ℕ → Type 0
-RowSums s image i w lo hi = (a : ℕ) → lo ≤ a → a < hi → LineSums s image i w a
+abbrev pub MaskSums : Shape → List ℕ → ℕ → List ℕ → ℕ → ℕ → Type 0
+MaskSums s image i w lo hi = (a : ℕ) → lo ≤ a → a < hi → LineSums s image i w a

@@ -1,1 +1,2 @@
+pub mod SweepAhead
 pub mod Turns

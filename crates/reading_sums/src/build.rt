@@ -14,7 +14,7 @@ ghost use Rattle.refusal.specs.Limits.{longestCycle};
 ghost use Rattle.memory.specs.Memory.{Changed, Outside};
 ghost use Rattle.window.specs.Ready.{Ready};
 ghost use Rattle.lines.specs.Lines.{IsLine, Line};
-ghost use Rattle.reading_planes.specs.Planes.{ofRows, none, Counted, Behind, Fronts, planes, added};
+ghost use Rattle.reading_planes.specs.Planes.{ofRows, none, Counted, Behind, Fronts, planes, gained};
 
 // Counts, over all mask rows of row i, the columns from `at` on at the places from `start` on: two rows at a
 // time, and `last`, the last one, alone, since the mask rows are odd in number.
@@ -105,7 +105,7 @@ pub fn build_on(
     requires { ⌜ Behind shape (ofRows shape (now image) i (now own)) none (now change) l ⌝ }
     ensures { λ _. ⌜ Behind shape (ofRows shape (now (image .entry)) i (now (own .entry))) none (now (change .exit)) (l + 1) ⌝ }
     ensures { λ _. ⌜ Changed (now (work .entry)) (now (work .exit)) plane (shape .columns)
-        (added (now (work .entry)) plane (ofRows shape (now (image .entry)) i (now (own .entry))) none (l + 1)) ⌝ }
+        (gained (now (work .entry)) plane (ofRows shape (now (image .entry)) i (now (own .entry))) none (l + 1)) ⌝ }
 {
     count_rows(
         shape,

@@ -11,9 +11,9 @@ ghost use Rattle.refusal.specs.Limits.{longestCycle};
 ghost use Rattle.refusal.specs.Outcome.{Clear};
 ghost use Rattle.shape.specs.Rules.{shapeRules};
 ghost use Rattle.memory.specs.Memory.{Changed, Outside};
-ghost use Rattle.lines.specs.Lines.{IsLine};
 ghost use Rattle.reading_lines.specs.Passes.{ofLine};
-ghost use Rattle.reading_planes.specs.Planes.{Behind, Fronts, held, planes, added};
+ghost use Rattle.reading_planes.specs.Planes.{Behind, Fronts, held, planes, gained};
+ghost use Rattle.reading_sums.specs.CarryLines.{CarryLines};
 
 // The sweep ahead, over every plane of the readings of `own`.
 pub fn carry_ahead(
@@ -27,7 +27,7 @@ pub fn carry_ahead(
     step: &mut [u16],
 )
     requires { ⌜ Clear (shapeRules longestCycle shape) × (base + planes shape ≤ length (now work)) ⌝ }
-    requires { ⌜ IsLine (now own) × IsLine (now entering) × IsLine (now leaving) × IsLine (now change) × IsLine (now step) ⌝ }
+    requires { ⌜ CarryLines (now own) (now entering) (now leaving) (now change) (now step) ⌝ }
     ensures { λ _. ⌜ Fronts shape (now (work .exit)) base (held shape (now (work .entry)) base)
         (ofLine (shape .cycle) (now (own .entry)) (now (entering .entry))) (ofLine (shape .cycle) (now (own .entry)) (now (leaving .entry))) 0 ⌝ }
     ensures { λ _. ⌜ Outside (now (work .entry)) (now (work .exit)) base (planes shape) ⌝ }
@@ -68,12 +68,12 @@ pub fn carry_on(
     step: &mut [u16],
 )
     requires { ⌜ Clear (shapeRules longestCycle shape) × (l + 1 < shape .«mask_columns») × (plane + shape .columns ≤ length (now work)) ⌝ }
-    requires { ⌜ IsLine (now own) × IsLine (now entering) × IsLine (now leaving) × IsLine (now change) × IsLine (now step) ⌝ }
+    requires { ⌜ CarryLines (now own) (now entering) (now leaving) (now change) (now step) ⌝ }
     requires { ⌜ Behind shape (ofLine (shape .cycle) (now own) (now entering)) (ofLine (shape .cycle) (now own) (now leaving)) (now change) l ⌝ }
     ensures { λ _. ⌜ Behind shape (ofLine (shape .cycle) (now (own .entry)) (now (entering .entry))) (ofLine (shape .cycle) (now (own .entry)) (now (leaving .entry)))
         (now (change .exit)) (l + 1) ⌝ }
     ensures { λ _. ⌜ Changed (now (work .entry)) (now (work .exit)) plane (shape .columns)
-        (added (now (work .entry)) plane (ofLine (shape .cycle) (now (own .entry)) (now (entering .entry))) (ofLine (shape .cycle) (now (own .entry)) (now (leaving .entry))) (l + 1)) ⌝ }
+        (gained (now (work .entry)) plane (ofLine (shape .cycle) (now (own .entry)) (now (entering .entry))) (ofLine (shape .cycle) (now (own .entry)) (now (leaving .entry))) (l + 1)) ⌝ }
 {
     let half = shape.cycle / 2;
     let columns = shape.columns as usize;

@@ -1,5 +1,5 @@
 // One mask row's turn in a row of the reading engine's output: its planes are carried or built, and each is
-// weighed as soon as it has its sums, while it is in the cache. Functions here take more than ten parameters:
+// weighed as soon as it has its sums, while it is in the cache. Two functions take more than ten parameters:
 // lines are lent one by one, since a struct of lent slices cannot be had. Internal: the tests are the caller's.
 use lines::pad;
 use memory::clear;
@@ -10,14 +10,29 @@ use reading_sums::build_on;
 use reading_sums::carry_ahead;
 use reading_sums::carry_on;
 use shape::Shape;
-ghost use Prim.Native.Nat.{_+_, _-_, _<_};
+ghost use mathlib.Core.Path.{_≡_};
+ghost use Prim.Native.Nat.{_+_, _-_, _*_, _<_};
 ghost use lib.ListN.{length};
+ghost use Rattle.refusal.specs.Limits.{longestCycle};
+ghost use Rattle.shape.specs.Need.{readingNeed};
+ghost use Rattle.shape.specs.Rules.{reach};
 ghost use Rattle.memory.specs.Memory.{Outside};
+ghost use Rattle.window.specs.Ready.{Ready};
 ghost use Rattle.lines.specs.Lines.{IsLine, Line, Centres};
+ghost use Rattle.lines.specs.Rows.{Given};
 ghost use Rattle.reading_planes.specs.Planes.{planes};
-ghost use Rattle.reading_planes.specs.Sums.{Given, place, LineSums};
+ghost use Rattle.reading_planes.specs.Sums.{place, LineSums};
 ghost use Rattle.reading_choice.specs.Weighed.{RowWeighed};
 ghost use Rattle.reading_turns.specs.Scratch.{Scratch};
+
+// The line of the row at a position of the padded image, and where its planes start.
+fn lay_line(shape: Shape, image: &[u16], position: usize, own: &mut [u16]) -> usize
+    requires { ⌜ Ready longestCycle shape (now image) × (position < shape .rows + 2 * reach (shape .«mask_rows»)) × IsLine (now own) ⌝ }
+    ensures { λ r. ⌜ Line shape (now (image .entry)) position (now (own .exit)) × (r ≡ place shape position) ⌝ }
+{
+    pad(shape, image, position, own);
+    place_of(shape, position)
+}
 
 // Mask row k of row i, from its sums in the row before, and weighed.
 pub fn stay(
@@ -35,7 +50,7 @@ pub fn stay(
     least: &mut [u32],
     nearest: &mut [u32],
 )
-    requires { ⌜ Given shape (now image) (length (now work)) × (0 < i) × (i < shape .rows) × (k < shape .«mask_rows») ⌝ }
+    requires { ⌜ Given longestCycle readingNeed shape (now image) (length (now work)) × (0 < i) × (i < shape .rows) × (k < shape .«mask_rows») ⌝ }
     requires { ⌜ IsLine (now own) × Line shape (now image) (i + shape .«mask_rows» - 1) (now entering) × Line shape (now image) (i - 1) (now leaving) ⌝ }
     requires { ⌜ Centres shape (now image) i (now centres) × Scratch (now change) (now step) (now least) (now nearest) ⌝ }
     requires { ⌜ LineSums shape (now image) (i - 1) (now work) (i + k) × RowWeighed shape (now image) i k 0 (now least) (now nearest) ⌝ }
@@ -45,13 +60,11 @@ pub fn stay(
 {
     let columns = shape.columns as usize;
     let mask = shape.mask_columns as usize;
-    pad(shape, image, i + k, own);
-    let base = place_of(shape, i + k);
-    carry_ahead(shape, work, base, own, entering, leaving, change, step);
+    let mut plane = lay_line(shape, image, i + k, own);
+    carry_ahead(shape, work, plane, own, entering, leaving, change, step);
     clear(change, 0, columns + mask);
-    weigh(shape, work, base, 0, own, centres, step, least, nearest);
+    weigh(shape, work, plane, 0, own, centres, step, least, nearest);
     let mut l = 0;
-    let mut plane = base;
     while l + 1 < mask {
         plane += columns;
         carry_on(shape, work, plane, l, own, entering, leaving, change, step);
@@ -77,7 +90,7 @@ pub fn enter(
     least: &mut [u32],
     nearest: &mut [u32],
 )
-    requires { ⌜ Given shape (now image) (length (now work)) × (i < shape .rows) × (k < shape .«mask_rows») ⌝ }
+    requires { ⌜ Given longestCycle readingNeed shape (now image) (length (now work)) × (i < shape .rows) × (k < shape .«mask_rows») ⌝ }
     requires { ⌜ IsLine (now own) × Line shape (now image) (i + shape .«mask_rows» - 1) (now last) × IsLine (now row) × IsLine (now other) ⌝ }
     requires { ⌜ Centres shape (now image) i (now centres) × Scratch (now change) (now step) (now least) (now nearest) ⌝ }
     requires { ⌜ RowWeighed shape (now image) i k 0 (now least) (now nearest) ⌝ }
@@ -87,14 +100,13 @@ pub fn enter(
 {
     let columns = shape.columns as usize;
     let mask = shape.mask_columns as usize;
-    pad(shape, image, i + k, own);
-    let base = place_of(shape, i + k);
+    let mut plane = lay_line(shape, image, i + k, own);
     build_ahead(
         shape,
         image,
         i,
         work,
-        base,
+        plane,
         own,
         last,
         row,
@@ -103,9 +115,8 @@ pub fn enter(
         step,
     );
     clear(change, 0, columns + mask);
-    weigh(shape, work, base, 0, own, centres, step, least, nearest);
+    weigh(shape, work, plane, 0, own, centres, step, least, nearest);
     let mut l = 0;
-    let mut plane = base;
     while l + 1 < mask {
         plane += columns;
         build_on(

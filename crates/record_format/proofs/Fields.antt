@@ -9,16 +9,17 @@ use lib.Seq.{take-suc}
 use Rattle.lists.specs.Joined.{joined}
 use Rattle.lists.proofs.Joined.{length-joined}
 use Rattle.lists.proofs.Parts.{part-end}
+use Rattle.record_format.specs.Layout.{numberLength, headLength, numbersLength, fieldLength}
 use Rattle.record_format.specs.Fields.{rowTag, endTag, number, numbers, field}
 use Rattle.shape.specs.declared.Shape.{Shape}
-use Rattle.shape.specs.Rules.{area}
-use Rattle.record_format.specs.Record.{rowOf, rowField, recordBytes, recordLength}
+use Rattle.shape.specs.Rules.{area, rowOf}
+use Rattle.record_format.specs.Record.{rowField, recordBytes, recordLength}
 
-pub length-number : (x : ℕ) → length (number x) ≡ 2
+pub length-number : (x : ℕ) → length (number x) ≡ numberLength
 unfolding number
 length-number x = refl
 
-pub length-numbers : (xs : List ℕ) → length (numbers xs) ≡ 2 * length xs
+pub length-numbers : (xs : List ℕ) → length (numbers xs) ≡ numbersLength (length xs)
 unfolding numbers
 length-numbers [] = refl
 length-numbers (x ∷ xs) = rw length-append (omega (arith, length-number x, length-numbers xs))
@@ -38,7 +39,7 @@ pub field-is : (tag : ℕ) (body : List ℕ) (n : ℕ) → length body ≡ n →
 unfolding field
 field-is tag body n e = rw e
 
-pub length-field : (tag : ℕ) (body : List ℕ) → length (field tag body) ≡ 3 + length body
+pub length-field : (tag : ℕ) (body : List ℕ) → length (field tag body) ≡ headLength + length body
 unfolding field number
 length-field tag body = omega arith
 
@@ -47,14 +48,19 @@ module _ (n : ℕ) (readings : List ℕ) where
   pub length-row : (i m : ℕ) → i < m → length readings ≡ m * n → length (rowOf n readings i) ≡ n
   length-row i m h e = simp (length-take, length-drop) (omega (arith, part-end i m n h))
 
-  pub length-row-field : (i m : ℕ) → i < m → length readings ≡ m * n → length (rowField n readings i) ≡ 3 + 2 * n
+  pub length-row-field : (i m : ℕ) → i < m → length readings ≡ m * n → length (rowField n readings i) ≡ fieldLength n
   length-row-field i m h e = omega (arith, length-field rowTag (numbers (rowOf n readings i)), length-numbers (rowOf n readings i), length-row i m h e)
 
   -- the fields of the first i rows
-  pub length-row-fields : (i m : ℕ) → i ≤ m → length readings ≡ m * n → length (joined (rowField n readings) 0 i) ≡ i * (3 + 2 * n)
-  length-row-fields i m h e = length-joined (rowField n readings) (3 + 2 * n) 0 i (λ k g j. length-row-field k m (omega arith) e)
+  pub length-row-fields : (i m : ℕ) → i ≤ m → length readings ≡ m * n → length (joined (rowField n readings) 0 i) ≡ i * fieldLength n
+  length-row-fields i m h e = length-joined (rowField n readings) (fieldLength n) 0 i (λ k g j. length-row-field k m (omega arith) e)
 
 -- "Its length .. is 22 + M·(3 + 2N)"
+pub record-length-is : (s : Shape) → recordLength s ≡ 22 + s .rows * (3 + 2 * s .columns)
+unfolding recordLength
+record-length-is s = omega arith
+
+-- and that is how long its bytes are
 pub length-record : (s : Shape) (readings : List ℕ) → length readings ≡ area s → length (recordBytes s readings) ≡ recordLength s
 unfolding recordBytes recordLength field numbers number
 length-record s readings e =

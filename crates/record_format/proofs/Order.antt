@@ -9,10 +9,11 @@ use Rattle.lists.proofs.Members.{each-append}
 use Rattle.lists.proofs.Joined.{each-of-joined}
 use Rattle.refusal.specs.Outcome.{Rule, Rising, Numbered}
 use Rattle.refusal.specs.Outcome.Outcome.{refused}
-use Rattle.refusal.proofs.Order.{Least, least-told}
+use Rattle.refusal.proofs.Order.{LowestDue, least-told}
 use Rattle.shape.specs.declared.Shape.{Shape}
-use Rattle.record_format.specs.Record.{recordLength, writeRules, writeCall}
-use Rattle.record_format.specs.Reading.{rowsIn, cycleFieldRules, sizeFieldRules, maskFieldRules, rowFieldRules, endFieldRules, bodyRules, readRules}
+use Rattle.record_format.specs.Record.{recordLength, writeRules, writeDue}
+use Rattle.record_format.specs.Reading.{rowsIn, cycleFieldRules, sizeFieldRules, maskFieldRules, rowFieldRules, endFieldRules, bodyRules}
+use Rattle.record_format.specs.Reading.{readRules}
 
 module _ (s : Shape) (readings : List ℕ) (room : ℕ) where
   pub write-rising : Rising (writeRules s readings room)
@@ -22,8 +23,8 @@ module _ (s : Shape) (readings : List ℕ) (room : ℕ) where
   write-numbered = search needs
 
   -- what it says of a refusal of the writer: no rule that is due has a lower number
-  pub write-least : {n k : ℕ} → writeCall s readings room ≡ refused n k → Least n (writeRules s readings room)
-  unfolding writeCall
+  pub write-least : {n k : ℕ} → writeDue s readings room ≡ refused n k → LowestDue n (writeRules s readings room)
+  unfolding writeDue
   write-least = least-told (recordLength s) (writeRules s readings room) write-rising
 
 module _ (bytes : List ℕ) (room : ℕ) where

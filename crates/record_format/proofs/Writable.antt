@@ -1,5 +1,5 @@
 -- What it says of the writer's arguments that its tests are clear, and back. Assumes nothing.
-use Prim.Native.Nat.{ℕ, _+_, _*_, _≤_}
+use Prim.Native.Nat.{ℕ, _≤_}
 use mathlib.Core.Path.{_≡_}
 use mathlib.Core.List.{List}
 use native.Mathlib.Omega.{arith}
@@ -14,6 +14,7 @@ use Rattle.cycle.specs.Distance.{isReading}
 use Rattle.shape.specs.declared.Shape.{Shape}
 use Rattle.shape.specs.Rules.{shapeRules, area}
 use Rattle.shape.proofs.Accepted.{Accepted, shape-clear}
+use Rattle.record_format.specs.Layout.{fieldLength}
 use Rattle.record_format.specs.Record.{recordLength, callRules, writeRules}
 
 pub record Writable (s : Shape) (readings : List ℕ) (room : ℕ) : Type 0 where
@@ -27,7 +28,7 @@ pub record Writable (s : Shape) (readings : List ℕ) (room : ℕ) : Type 0 wher
 pub record-length-fits : {limit : ℕ} {s : Shape} → Accepted limit s → recordLength s ≤ 16780310
 unfolding recordLength
 record-length-fits {limit} {s} a =
-    let w : 3 + 2 * s .columns ≤ 3 + 2 * mostColumns = omega (arith, a .columns-fit) in
+    let w : fieldLength (s .columns) ≤ fieldLength mostColumns = omega (arith, a .columns-fit) in
     omega (arith, mul-le-mul (a .rows-fit) w)
 
 pub writable : (s : Shape) (readings : List ℕ) (room : ℕ) → Clear (writeRules s readings room) → Writable s readings room

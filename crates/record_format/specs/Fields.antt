@@ -4,6 +4,7 @@ use Prim.Native.Nat.{ℕ, _+_, _*_, _/_, _%_, _<_}
 use mathlib.Core.List.{List, [], _∷_, _++_}
 use lib.ListN.{length, getD}
 use Rattle.lists.specs.Tabulate.{tabulate}
+use Rattle.record_format.specs.Layout.{numbersLength}
 
 -- each element is a byte; past the end of a list, 0 is read
 unfoldable pub Bytes : List ℕ → Type 0
@@ -43,4 +44,4 @@ unfoldable pub numberAt : List ℕ → ℕ → ℕ
 numberAt bytes at = getD bytes at 0 * 256 + getD bytes (at + 1) 0
 
 unfoldable pub numbersAt : List ℕ → ℕ → ℕ → List ℕ
-numbersAt bytes at n = tabulate (λ k. numberAt bytes (at + 2 * k)) 0 n
+numbersAt bytes at n = tabulate (λ k. numberAt bytes (at + numbersLength k)) 0 n

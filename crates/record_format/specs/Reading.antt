@@ -12,6 +12,8 @@ use Rattle.refusal.specs.Outcome.{Outcome, Rule, rule, firstDue}
 use Rattle.cycle.specs.Calls.{cycleRules, readingRule}
 use Rattle.shape.specs.declared.Shape.{Shape}
 use Rattle.shape.specs.Rules.{sizeRules, maskRules, reflectionRules, area, bufferRule}
+use Rattle.record_format.specs.Layout.{headLength, numbersLength, lengthOf, bodyOf, fieldLength}
+use Rattle.record_format.specs.Layout.{cycleFieldAt, cycleAt, sizeFieldAt, rowsAt, columnsAt, maskFieldAt, maskRowsAt, maskColumnsAt}
 use Rattle.record_format.specs.Fields.{cycleTag, sizeTag, maskTag, rowTag, endTag, numberAt, numbersAt}
 
 -- "the default mask, 1 by 3"
@@ -21,29 +23,33 @@ defaultMaskRows = 1
 abbrev pub defaultMaskColumns : ℕ
 defaultMaskColumns = 3
 
--- What the bytes hold: field 01 stands at 0, 02 at 5, 03 at 12, each body three bytes further.
+-- What the bytes hold: field 01 stands at 0, 02 at 5, 03 at 12, each body three bytes further (`Layout.antt`).
 
 abbrev pub cycleIn : List ℕ → ℕ
-cycleIn bytes = numberAt bytes 3
+cycleIn bytes = numberAt bytes cycleAt
 
 abbrev pub rowsIn : List ℕ → ℕ
-rowsIn bytes = numberAt bytes 8
+rowsIn bytes = numberAt bytes rowsAt
 
 abbrev pub columnsIn : List ℕ → ℕ
-columnsIn bytes = numberAt bytes 10
+columnsIn bytes = numberAt bytes columnsAt
 
 -- the length that field 03 says, and the one that is due: 0 or 4
 abbrev pub maskSaid : List ℕ → ℕ
-maskSaid bytes = numberAt bytes 13
+maskSaid bytes = numberAt bytes (lengthOf maskFieldAt)
 
 unfoldable pub maskDue : List ℕ → ℕ
-maskDue bytes = cond (eqb (maskSaid bytes) 0) 0 4
+maskDue bytes = cond (eqb (maskSaid bytes) 0) 0 (numbersLength 2)
 
-unfoldable pub maskRowsIn : List ℕ → ℕ
-maskRowsIn bytes = cond (eqb (maskSaid bytes) 0) defaultMaskRows (numberAt bytes 15)
+-- a side of the mask: the number at an offset, or the default if the field is empty
+unfoldable pub maskSideIn : List ℕ → ℕ → ℕ → ℕ
+maskSideIn bytes at default = cond (eqb (maskSaid bytes) 0) default (numberAt bytes at)
 
-unfoldable pub maskColumnsIn : List ℕ → ℕ
-maskColumnsIn bytes = cond (eqb (maskSaid bytes) 0) defaultMaskColumns (numberAt bytes 17)
+abbrev pub maskRowsIn : List ℕ → ℕ
+maskRowsIn bytes = maskSideIn bytes maskRowsAt defaultMaskRows
+
+abbrev pub maskColumnsIn : List ℕ → ℕ
+maskColumnsIn bytes = maskSideIn bytes maskColumnsAt defaultMaskColumns
 
 abbrev pub shapeIn : List ℕ → Shape
 shapeIn bytes = record {
@@ -56,14 +62,14 @@ shapeIn bytes = record {
 
 -- the offset of the field of row i; that of row M is the end's
 unfoldable pub rowAt : List ℕ → ℕ → ℕ
-rowAt bytes i = 15 + maskDue bytes + i * (3 + 2 * columnsIn bytes)
+rowAt bytes i = bodyOf maskFieldAt + maskDue bytes + i * fieldLength (columnsIn bytes)
 
 abbrev pub endAt : List ℕ → ℕ
 endAt bytes = rowAt bytes (rowsIn bytes)
 
 -- the readings of row i, and of all rows
 unfoldable pub rowIn : List ℕ → ℕ → List ℕ
-rowIn bytes i = numbersAt bytes (rowAt bytes i + 3) (columnsIn bytes)
+rowIn bytes i = numbersAt bytes (bodyOf (rowAt bytes i)) (columnsIn bytes)
 
 unfoldable pub imageIn : List ℕ → List ℕ
 imageIn bytes = joined (rowIn bytes) 0 (rowsIn bytes)
@@ -72,19 +78,19 @@ imageIn bytes = joined (rowIn bytes) 0 (rowsIn bytes)
 -- present (10)". The place is the offset.
 abbrev pub fieldRules : List ℕ → ℕ → ℕ → ℕ → List Rule
 fieldRules bytes at tag due =
-    rule (ltb (length bytes - at) 3) 10 at
+    rule (ltb (length bytes - at) headLength) 10 at
     ∷ rule (not (eqb (getD bytes at 0) tag)) 11 at
-    ∷ rule (not (eqb (numberAt bytes (at + 1)) due)) 12 at
-    ∷ rule (ltb (length bytes - (at + 3)) due) 10 at
+    ∷ rule (not (eqb (numberAt bytes (lengthOf at)) due)) 12 at
+    ∷ rule (ltb (length bytes - bodyOf at) due) 10 at
     ∷ []
 
 -- "then values": C
 abbrev pub cycleFieldRules : List ℕ → List Rule
-cycleFieldRules bytes = fieldRules bytes 0 cycleTag 2 ++ cycleRules longestCycle (cycleIn bytes)
+cycleFieldRules bytes = fieldRules bytes cycleFieldAt cycleTag (numbersLength 1) ++ cycleRules longestCycle (cycleIn bytes)
 
 -- sizes
 abbrev pub sizeFieldRules : List ℕ → List Rule
-sizeFieldRules bytes = fieldRules bytes 5 sizeTag 4 ++ sizeRules (rowsIn bytes) (columnsIn bytes)
+sizeFieldRules bytes = fieldRules bytes sizeFieldAt sizeTag (numbersLength 2) ++ sizeRules (rowsIn bytes) (columnsIn bytes)
 
 -- "mask (3, then 4), and after the mask the readings buffer (7)"
 abbrev pub maskValueRules : Shape → ℕ → List Rule
@@ -94,7 +100,7 @@ maskValueRules s room =
     ++ (bufferRule (area s) room ∷ []))
 
 abbrev pub maskFieldRules : List ℕ → ℕ → List Rule
-maskFieldRules bytes room = fieldRules bytes 12 maskTag (maskDue bytes) ++ maskValueRules (shapeIn bytes) room
+maskFieldRules bytes room = fieldRules bytes maskFieldAt maskTag (maskDue bytes) ++ maskValueRules (shapeIn bytes) room
 
 -- "a row's readings are checked (9) when its field is met"; the place counts over the whole image
 abbrev pub placedAfter : ℕ → Rule → Rule
@@ -102,12 +108,15 @@ placedAfter start r = rule (r .due) (r .number) (start + r .place)
 
 unfoldable pub rowFieldRules : List ℕ → ℕ → List Rule
 rowFieldRules bytes i =
-    fieldRules bytes (rowAt bytes i) rowTag (2 * columnsIn bytes)
+    fieldRules bytes (rowAt bytes i) rowTag (numbersLength (columnsIn bytes))
     ++ (placedAfter (i * columnsIn bytes) (readingRule (cycleIn bytes) (rowIn bytes i)) ∷ [])
 
 -- "After FF comes 13."
+abbrev pub trailingRule : List ℕ → ℕ → Rule
+trailingRule bytes end = rule (ltb end (length bytes)) 13 end
+
 abbrev pub endFieldRules : List ℕ → List Rule
-endFieldRules bytes = fieldRules bytes (endAt bytes) endTag 0 ++ (rule (ltb (endAt bytes + 3) (length bytes)) 13 (endAt bytes + 3) ∷ [])
+endFieldRules bytes = fieldRules bytes (endAt bytes) endTag 0 ++ (trailingRule bytes (bodyOf (endAt bytes)) ∷ [])
 
 -- M row fields, and FF
 abbrev pub bodyRules : List ℕ → List Rule
@@ -118,5 +127,5 @@ unfoldable pub readRules : List ℕ → ℕ → List Rule
 readRules bytes room = cycleFieldRules bytes ++ (sizeFieldRules bytes ++ (maskFieldRules bytes room ++ bodyRules bytes))
 
 -- what the reader is answered
-unfoldable pub readCall : List ℕ → ℕ → Outcome Shape
-readCall bytes room = firstDue (readRules bytes room) (shapeIn bytes)
+unfoldable pub readDue : List ℕ → ℕ → Outcome Shape
+readDue bytes room = firstDue (readRules bytes room) (shapeIn bytes)

@@ -1,18 +1,15 @@
 -- Document 01, "Bench record": the bytes of a record, and what the writer is answered.
 use Prim.Native.Nat.{ℕ, _+_, _*_}
 use mathlib.Core.List.{List, [], _∷_, _++_}
-use lib.ListN.{length, take, drop}
+use lib.ListN.{length}
 use Rattle.lists.specs.Joined.{joined}
 use Rattle.refusal.specs.Limits.{longestCycle}
 use Rattle.refusal.specs.Outcome.{Outcome, Rule, firstDue}
 use Rattle.cycle.specs.Calls.{readingRule}
 use Rattle.shape.specs.declared.Shape.{Shape}
-use Rattle.shape.specs.Rules.{shapeRules, area, inputRule, bufferRule}
+use Rattle.shape.specs.Rules.{shapeRules, area, rowOf, inputRule, bufferRule}
+use Rattle.record_format.specs.Layout.{headLength, fieldLength, rowFieldsAt}
 use Rattle.record_format.specs.Fields.{cycleTag, sizeTag, maskTag, rowTag, endTag, numbers, field}
-
--- the readings of row i of an image of n columns
-abbrev pub rowOf : ℕ → List ℕ → ℕ → List ℕ
-rowOf n readings i = take n (drop (i * n) readings)
 
 -- "04, length 2N: one row of readings"
 abbrev pub rowField : ℕ → List ℕ → ℕ → List ℕ
@@ -27,9 +24,9 @@ recordBytes s readings =
     ++ (joined (rowField (s .columns) readings) 0 (s .rows)
     ++ field endTag [])))
 
--- "Its length, which the writer returns, is 22 + M·(3 + 2N)"
+-- "Its length, which the writer returns, is 22 + M·(3 + 2N)": fields 01 to 03, M fields 04, FF
 unfoldable pub recordLength : Shape → ℕ
-recordLength s = 22 + s .rows * (3 + 2 * s .columns)
+recordLength s = rowFieldsAt + s .rows * fieldLength (s .columns) + headLength
 
 -- 1 to 4, then 6, 7 and 9
 abbrev pub callRules : Shape → List ℕ → ℕ → List Rule
@@ -39,5 +36,5 @@ abbrev pub writeRules : Shape → List ℕ → ℕ → List Rule
 writeRules s readings room = shapeRules longestCycle s ++ callRules s readings room
 
 -- what the writer is answered, with room for that many bytes
-unfoldable pub writeCall : Shape → List ℕ → ℕ → Outcome ℕ
-writeCall s readings room = firstDue (writeRules s readings room) (recordLength s)
+unfoldable pub writeDue : Shape → List ℕ → ℕ → Outcome ℕ
+writeDue s readings room = firstDue (writeRules s readings room) (recordLength s)

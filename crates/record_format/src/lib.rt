@@ -1,9 +1,12 @@
 // Numbers and fields as bytes: each number two bytes, high byte first. Internal: the tests are the caller's.
+pub mod layout;
+
 ghost use mathlib.Core.Path.{_≡_};
 ghost use Prim.Native.Nat.{_+_, _*_, _≤_, _<_};
 ghost use lib.ListN.{length};
 ghost use lib.Seq.{sets};
 ghost use Rattle.record_format.specs.Fields.{number, numberAt};
+ghost use Rattle.record_format.specs.Layout.{numberLength};
 
 pub const CYCLE_TAG: u8 = 0x01;
 
@@ -17,7 +20,7 @@ pub const END_TAG: u8 = 0xFF;
 
 // The number at an offset.
 pub fn number_at(bytes: &[u8], at: usize) -> u16
-    requires { ⌜ at + 2 ≤ length (now bytes) ⌝ }
+    requires { ⌜ at + numberLength ≤ length (now bytes) ⌝ }
     ensures { λ r. ⌜ r ≡ numberAt (now (bytes .entry)) at ⌝ }
 {
     bytes[at] as u16 * 256 + bytes[at + 1] as u16
@@ -25,7 +28,7 @@ pub fn number_at(bytes: &[u8], at: usize) -> u16
 
 // Writes a number at an offset.
 pub fn put_number(bytes: &mut [u8], at: usize, x: u32)
-    requires { ⌜ (at + 2 ≤ length (now bytes)) × (x < 65536) ⌝ }
+    requires { ⌜ (at + numberLength ≤ length (now bytes)) × (x < 65536) ⌝ }
     ensures { λ _. ⌜ now (bytes .exit) ≡ sets (now (bytes .entry)) at (number x) ⌝ }
 {
     bytes[at] = (x / 256) as u8;

@@ -2,114 +2,75 @@
 // stdout: the examples of document 01, each refusal with its place, the 35 bytes of the bench sheet cut
 // short and with single bytes changed, and what was written read back. Lent memory holds a mark
 // before each call, and the line ends in `kept` if all that the call may not change still has it.
-use libc::STDOUT_FILENO;
+//
+// Standard input holds one case to a line, which is printed, as it was understood, before its answer. `read` and `again` have a record's
+// bytes in hexadecimal: `read` reads them, with room for so many readings, and `again` reads them and writes what
+// was read. `write` has the sizes and the readings that are written, with room for so many bytes. `cut` and `byte`
+// are on the record of the last `read` before them: its first bytes, and all of them with one changed.
 use record::ReadAnswer;
 use record::WriteAnswer;
-use refusal::Refusal;
+use runs::cases::DECIMAL;
+use runs::cases::HEXADECIMAL;
+use runs::cases::MOST_INPUT;
+use runs::cases::begins;
+use runs::cases::bytes_of;
+use runs::cases::find;
+use runs::cases::input;
+use runs::cases::low_u8;
+use runs::cases::number_of;
+use runs::cases::numbers_of;
+use runs::cases::readings_of;
+use runs::cases::shape_of;
+use runs::counts::after;
+use runs::counts::least;
+use runs::counts::times;
+use runs::marks::mark_end_u8;
+use runs::marks::mark_end_u16;
+use runs::print::say;
+use runs::print::say_byte;
+use runs::print::say_bytes;
+use runs::print::say_kept;
+use runs::print::say_next;
+use runs::print::say_number;
+use runs::print::say_readings;
+use runs::print::say_refusal;
+use runs::print::say_shape;
 use shape::Shape;
+ghost use Prim.Native.Nat.{_≤_};
+ghost use lib.ListN.{length};
+ghost use Rattle.io.specs.Counts.{Counts};
+
+// The most readings and bytes that a case lends, and the readings lent for what was written.
+const MOST_READINGS: usize = 8192;
+
+const MOST_BYTES: usize = 128;
+
+const BACK: usize = 20;
 
 // No reading of these runs, and no byte of their records.
 const READING_MARK: u16 = 60000;
 
 const BYTE_MARK: u8 = 238;
 
-fn say(text: &[u8]) {
-    io::write_all(STDOUT_FILENO, text);
-}
-
-fn say_number(n: u64) {
-    io::print_decimal(STDOUT_FILENO, n);
-}
-
-fn say_next(n: u64) {
-    say(b" ");
-    say_number(n);
-}
-
-fn say_refusal(r: Refusal) {
-    say(b" refused ");
-    say_number(refusal::number(r) as u64);
-    say(b" at ");
-    say_number(refusal::place(r) as u64);
-}
-
-fn say_shape(s: Shape) {
-    say(b" cycle ");
-    say_number(s.cycle as u64);
-    say(b" rows ");
-    say_number(s.rows as u64);
-    say(b" columns ");
-    say_number(s.columns as u64);
-    say(b" mask ");
-    say_number(s.mask_rows as u64);
-    say_next(s.mask_columns as u64);
-}
-
-fn digit(x: u8) -> u8 {
-    if x < 10 {
-        return 48 + x;
-    }
-    if x < 16 {
-        return 55 + x;
-    }
-    63
-}
-
-fn say_byte(x: u8) {
-    let pair = [32, digit(x / 16), digit(x % 16)];
-    say(&pair);
-}
-
-fn say_bytes(bytes: &[u8]) {
-    let mut i: usize = 0;
-    while i < bytes.len() {
-        say_byte(bytes[i]);
-        i += 1;
-    }
-}
-
-fn say_readings(readings: &[u16]) {
-    let mut i: usize = 0;
-    while i < readings.len() {
-        say_next(readings[i] as u64);
-        i += 1;
-    }
+// The number of readings of an image.
+fn area(s: Shape) -> usize {
+    times(s.rows as usize, s.columns as usize)
 }
 
 // Whether the numbers from a place on have their mark.
 fn say_readings_kept(readings: &[u16], start: usize) {
-    let mut i = start;
-    while i < readings.len() {
-        if readings[i] != READING_MARK {
-            say(b", CHANGED\n");
-            return;
-        }
-        i += 1;
-    }
-    say(b", kept\n");
+    say_kept(mark_end_u16(readings, start, READING_MARK) == readings.len());
 }
 
 fn say_bytes_kept(bytes: &[u8], start: usize) {
-    let mut i = start;
-    while i < bytes.len() {
-        if bytes[i] != BYTE_MARK {
-            say(b", CHANGED\n");
-            return;
-        }
-        i += 1;
-    }
-    say(b", kept\n");
-}
-
-// The number of readings of an image.
-fn area(s: Shape) -> usize {
-    s.rows as usize * s.columns as usize
+    say_kept(mark_end_u8(bytes, start, BYTE_MARK) == bytes.len());
 }
 
 // Reads, and prints the answer.
-fn read_into(bytes: &[u8], buffer: &mut [u16]) {
-    match record::read(bytes, buffer) {
+fn read_into(record: &[u8], buffer: &mut [u16]) {
+    match record::read(record, buffer) {
         ReadAnswer::Refused(r) => {
+            say(b" ");
             say_refusal(r);
             say_readings_kept(buffer, 0);
         }
@@ -128,27 +89,22 @@ fn read_into(bytes: &[u8], buffer: &mut [u16]) {
     }
 }
 
-fn read_part(bytes: &[u8], room: usize, buffer: &mut [u16]) {
+// Lends room for so many readings.
+fn read(record: &[u8], room: usize) {
     let start = 0;
-    if room <= buffer.len() {
-        read_into(bytes, &mut buffer[start..room]);
+    let mut buffer = [READING_MARK; MOST_READINGS];
+    if MOST_READINGS < room {
+        say(b" NO ROOM\n");
+        return;
     }
+    read_into(record, &mut buffer[start..room]);
 }
 
-// A call of the reader, with room for that many readings.
-fn read(bytes: &[u8], room: usize) {
-    let mut buffer = [READING_MARK; 8192];
-    say(b"read");
-    say_bytes(bytes);
-    say(b", room ");
-    say_number(room as u64);
-    say(b" ->");
-    read_part(bytes, room, &mut buffer);
-}
-
+// Writes, prints the answer, and reads back what was written.
 fn write_into(shape: Shape, readings: &[u16], bytes: &mut [u8]) {
     match record::write(shape, readings, bytes) {
         WriteAnswer::Refused(r) => {
+            say(b" ");
             say_refusal(r);
             say_bytes_kept(bytes, 0);
         }
@@ -162,23 +118,71 @@ fn write_into(shape: Shape, readings: &[u16], bytes: &mut [u8]) {
             say(b":");
             say_bytes(&bytes[start..n]);
             say_bytes_kept(bytes, n);
-            let mut buffer = [READING_MARK; 20];
             say(b"  back");
-            read_into(&bytes[start..n], &mut buffer);
+            read(&bytes[start..n], BACK);
         }
     }
 }
 
-fn write_part(shape: Shape, readings: &[u16], room: usize, bytes: &mut [u8]) {
+// Lends room for so many bytes.
+fn write(shape: Shape, readings: &[u16], room: usize) {
     let start = 0;
-    if room <= bytes.len() {
-        write_into(shape, readings, &mut bytes[start..room]);
+    let mut bytes = [BYTE_MARK; MOST_BYTES];
+    if MOST_BYTES < room {
+        say(b" NO ROOM\n");
+        return;
+    }
+    write_into(shape, readings, &mut bytes[start..room]);
+}
+
+// Reads, and writes what was read.
+fn again(record: &[u8]) {
+    let start = 0;
+    let mut buffer = [READING_MARK; BACK];
+    say(b"again");
+    say_bytes(record);
+    say(b" ->");
+    match record::read(record, &mut buffer) {
+        ReadAnswer::Refused(r) => {
+            say(b" ");
+            say_refusal(r);
+            say(b"\n");
+        }
+        ReadAnswer::Read(s) => {
+            let end = area(s);
+            if BACK < end {
+                say(b" OUT OF RANGE\n");
+                return;
+            }
+            write(s, &buffer[start..end], MOST_BYTES);
+        }
     }
 }
 
-// A call of the writer, with room for that many bytes; what it wrote is read back.
-fn write(shape: Shape, readings: &[u16], room: usize) {
-    let mut bytes = [BYTE_MARK; 128];
+// The record of a `read` or an `again`: the bytes before the comma.
+fn record_of(line: &[u8], bytes: &mut [u8]) -> usize
+    ensures { λ r. ⌜ Counts r (now (bytes .exit)) ⌝ }
+{
+    let comma = find(line, 0, b',');
+    bytes_of(&line[..comma], bytes)
+}
+
+// The room of a `read` or a `write`: the number after the comma.
+fn room_of(line: &[u8]) -> usize {
+    let comma = find(line, 0, b',');
+    number_of(&line[comma..], DECIMAL) as usize
+}
+
+fn read_case(record: &[u8], room: usize) {
+    say(b"read");
+    say_bytes(record);
+    say(b", room ");
+    say_number(room as u64);
+    say(b" ->");
+    read(record, room);
+}
+
+fn write_case(shape: Shape, readings: &[u16], room: usize) {
     say(b"write");
     say_shape(shape);
     say(b":");
@@ -186,343 +190,113 @@ fn write(shape: Shape, readings: &[u16], room: usize) {
     say(b", room ");
     say_number(room as u64);
     say(b" ->");
-    write_part(shape, readings, room, &mut bytes);
+    write(shape, readings, room);
 }
 
-// Reads, and writes what was read.
-fn again(bytes: &[u8]) {
-    let mut buffer = [READING_MARK; 20];
-    let mut copy = [BYTE_MARK; 128];
+fn read_line(line: &[u8]) {
+    let mut record = [0u8; MOST_BYTES];
+    let length = record_of(line, &mut record);
+    read_case(&record[..length], room_of(line));
+}
+
+fn again_line(line: &[u8]) {
+    let mut record = [0u8; MOST_BYTES];
+    let length = record_of(line, &mut record);
+    again(&record[..length]);
+}
+
+fn write_line(line: &[u8]) {
+    let mut sizes = [0u32; 5];
+    let mut readings = [0u16; MOST_BYTES];
+    let colon = find(line, 0, b':');
+    let comma = find(line, colon, b',');
+    numbers_of(&line[..colon], DECIMAL, &mut sizes);
+    let count = readings_of(&line[colon..comma], &mut readings);
+    write_case(shape_of(&sizes), &readings[..count], room_of(line));
+}
+
+// Reads the first bytes of a record.
+fn read_cut(record: &[u8], at: usize, room: usize) {
+    let end = least(at, record.len());
     let start = 0;
-    say(b"again");
-    say_bytes(bytes);
+    read(&record[start..end], room);
+}
+
+// The record's first bytes.
+fn cut_line(line: &[u8], last: &[u8]) {
+    let mut record = [0u8; MOST_BYTES];
+    let length = record_of(last, &mut record);
+    let at = number_of(line, DECIMAL) as usize;
+    say(b"cut at ");
+    say_number(at as u64);
     say(b" ->");
-    match record::read(bytes, &mut buffer) {
-        ReadAnswer::Refused(r) => {
-            say_refusal(r);
-            say(b"\n");
-        }
-        ReadAnswer::Read(s) => {
-            let end = area(s);
-            if end <= 20 {
-                write_into(s, &buffer[start..end], &mut copy);
-            }
-        }
+    read_cut(&record[..length], at, room_of(last));
+}
+
+// The record with one byte changed: `byte 3 is 4A`.
+fn byte_line(line: &[u8], last: &[u8]) {
+    let mut record = [0u8; MOST_BYTES];
+    let is = find(line, 0, b's');
+    let length = record_of(last, &mut record);
+    let at = number_of(&line[..is], DECIMAL) as usize;
+    let value = low_u8(number_of(&line[is..], HEXADECIMAL));
+    say(b"byte ");
+    say_number(at as u64);
+    say(b" is");
+    say_byte(value);
+    say(b" ->");
+    if length <= at {
+        say(b" NO BYTE\n");
+        return;
+    }
+    record[at] = value;
+    read_cut(&record, length, room_of(last));
+}
+
+fn run_line(line: &[u8], last: &[u8]) {
+    if begins(line, b"read") {
+        read_line(line);
+    } else if begins(line, b"again") {
+        again_line(line);
+    } else if begins(line, b"write") {
+        write_line(line);
+    } else if begins(line, b"cut") {
+        cut_line(line, last);
+    } else if begins(line, b"byte") {
+        byte_line(line, last);
+    } else {
+        say(line);
+        say(b" -> NO CASE\n");
     }
 }
 
-fn shape(cycle: u32, rows: u32, columns: u32, mask_rows: u32, mask_columns: u32) -> Shape {
-    Shape {
-        cycle,
-        rows,
-        columns,
-        mask_rows,
-        mask_columns,
+// Where the last `read` stands: at a line, or where it stood before.
+fn last_read(bytes: &[u8], before: usize, at: usize) -> usize
+    requires { ⌜ before ≤ length (now bytes) ⌝ }
+    requires { ⌜ at ≤ length (now bytes) ⌝ }
+    ensures { λ r. ⌜ r ≤ length (now (bytes .entry)) ⌝ }
+{
+    if begins(&bytes[at..], b"read") {
+        at
+    } else {
+        before
     }
 }
 
-// The 35 bytes of the bench sheet.
-fn sheet() -> [u8; 35] {
-    [
-        1,
-        0,
-        2,
-        0,
-        8,
-        2,
-        0,
-        4,
-        0,
-        1,
-        0,
-        5,
-        3,
-        0,
-        4,
-        0,
-        1,
-        0,
-        3,
-        4,
-        0,
-        10,
-        0,
-        1,
-        0,
-        4,
-        0,
-        1,
-        0,
-        7,
-        0,
-        7,
-        255,
-        0,
-        0,
-    ]
-}
-
-// Its first n bytes.
-fn cut(n: usize) {
-    let bytes = sheet();
-    let mut buffer = [READING_MARK; 8];
-    let start = 0;
-    if n <= 35 {
-        say(b"cut at ");
-        say_number(n as u64);
-        say(b" ->");
-        read_into(&bytes[start..n], &mut buffer);
+fn run_all(bytes: &[u8]) {
+    let mut last = 0;
+    let mut at = 0;
+    while at < bytes.len() {
+        let end = find(bytes, at, b'\n');
+        let last_end = find(bytes, last, b'\n');
+        run_line(&bytes[at..end], &bytes[last..last_end]);
+        last = last_read(bytes, last, at);
+        at = after(end, 1, bytes.len());
     }
-}
-
-// All of them, one changed.
-fn changed(at: usize, value: u8) {
-    let mut bytes = sheet();
-    let mut buffer = [READING_MARK; 8];
-    if at < 35 {
-        bytes[at] = value;
-        say(b"byte ");
-        say_number(at as u64);
-        say(b" is");
-        say_byte(value);
-        say(b" ->");
-        read_into(&bytes, &mut buffer);
-    }
-}
-
-fn cuts() {
-    let mut n: usize = 0;
-    while n <= 35 {
-        cut(n);
-        n += 1;
-    }
-}
-
-// One byte of the sheet changed to each value, its own among them.
-fn changed_to_all(at: usize) {
-    let mut value: u8 = 0;
-    while value < 255 {
-        changed(at, value);
-        value += 1;
-    }
-    changed(at, 255);
-}
-
-fn changes() {
-    let mut at: usize = 0;
-    while at < 35 {
-        changed_to_all(at);
-        at += 1;
-    }
-}
-
-// The reader on field 01 and before it.
-fn cycle_faults() {
-    read(b"", 8192);
-    read(b"\x02", 8192);
-    read(b"\x02\x00", 8192);
-    read(b"\x02\x00\x04", 8192);
-    read(b"\x01\x00\x03", 8192);
-    read(b"\x01\x00\x03\x00\x08\x00", 8192);
-    read(b"\x01\x00\x02\x00", 8192);
-    read(b"\x01\x00\x02\x00\x00", 8192);
-    read(b"\x01\x00\x02\x00\x08", 8192);
-}
-
-// On field 02.
-fn size_faults() {
-    read(b"\x01\x00\x02\x00\x08\x02\x00\x04\x00\x00\x00\x05", 8192);
-    read(b"\x01\x00\x02\x00\x08\x02\x00\x04\x04\x01\x00\x05", 8192);
-    read(b"\x01\x00\x02\x00\x08\x02\x00\x04\x00\x01\x20\x01", 8192);
-}
-
-// On field 03 and the readings buffer.
-fn mask_faults() {
-    read(
-        b"\x01\x00\x02\x00\x08\x02\x00\x04\x00\x01\x00\x05\x03\x00\x02\x00\x01",
-        8192,
-    );
-    read(
-        b"\x01\x00\x02\x00\x08\x02\x00\x04\x00\x01\x00\x05\x03\x00\x04\x00\x01\x00\x04",
-        8192,
-    );
-    read(
-        b"\x01\x00\x02\x00\x08\x02\x00\x04\x00\x01\x00\x05\x03\x00\x04\x00\x01\x01\x01",
-        8192,
-    );
-    read(
-        b"\x01\x00\x02\x00\x08\x02\x00\x04\x00\x01\x00\x05\x03\x00\x04\x00\x05\x00\x03",
-        8192,
-    );
-    read(
-        b"\x01\x00\x02\x00\x08\x02\x00\x04\x04\x00\x20\x00\x03\x00\x00",
-        8192,
-    );
-    read(
-        b"\x01\x00\x02\x00\x08\x02\x00\x04\x00\x01\x00\x05\x03\x00\x00",
-        8192,
-    );
-    read(
-        b"\x01\x00\x02\x00\x08\x02\x00\x04\x00\x01\x00\x05\x03\x00\x00",
-        4,
-    );
-}
-
-// On the fields of rows.
-fn row_faults() {
-    read(
-        b"\x01\x00\x02\x00\x08\x02\x00\x04\x00\x01\x00\x02\x03\x00\x00\x04\x00\x04\x00\x01\x00\x08",
-        8192,
-    );
-    read(
-        b"\x01\x00\x02\x00\x08\x02\x00\x04\x00\x01\x00\x02\x03\x00\x00\x04\x00\x04\x00\x09\x00",
-        8192,
-    );
-    read(
-        b"\x01\x00\x02\x00\x08\x02\x00\x04\x00\x02\x00\x02\x03\x00\x00\x04\x00\x04\x00\x01\x00\x02\x04\x00\x04\x00\x03\x00\x08\xFF\x00\x00",
-        8192,
-    );
-    read(
-        b"\x01\x00\x02\x00\x08\x02\x00\x04\x00\x02\x00\x02\x03\x00\x00\x04\x00\x04\x00\x01\x00\x02\xFF\x00\x00",
-        8192,
-    );
-    read(
-        b"\x01\x00\x02\x00\x08\x02\x00\x04\x00\x01\x00\x02\x03\x00\x00\x04\x00\x04\x00\x01\x00\x02\x04\x00\x04\x00\x01\x00\x02\xFF\x00\x00",
-        8192,
-    );
-}
-
-// On field FF and after it; on the whole record with little room.
-fn end_faults() {
-    read(
-        b"\x01\x00\x02\x00\x08\x02\x00\x04\x00\x01\x00\x02\x03\x00\x00\x04\x00\x04\x00\x01\x00\x02\xFF\x00\x01",
-        8192,
-    );
-    read(
-        b"\x01\x00\x02\x00\x08\x02\x00\x04\x00\x01\x00\x02\x03\x00\x00\x04\x00\x04\x00\x01\x00\x02\xFF\x00\x00\x00",
-        8192,
-    );
-    read(
-        b"\x01\x00\x02\x00\x08\x02\x00\x04\x00\x02\x00\x02\x03\x00\x00\x04\x00\x04\x00\x01\x00\x08\x04\x00\x04",
-        8192,
-    );
-    read(
-        b"\x01\x00\x02\x00\x08\x02\x00\x04\x00\x01\x00\x05\x03\x00\x04\x00\x01\x00\x03\x04\x00\x0A\x00\x01\x00\x04\x00\x01\x00\x07\x00\x07\xFF\x00\x00\x00",
-        8192,
-    );
-    read(
-        b"\x01\x00\x02\x00\x08\x02\x00\x04\x00\x01\x00\x05\x03\x00\x04\x00\x01\x00\x03\x04\x00\x0A\x00\x01\x00\x04\x00\x01\x00\x07\x00\x07\xFF\x00\x00",
-        4,
-    );
-}
-
-// Records that are accepted: with the mask's four bytes, with an empty mask field, with one reading,
-// with the longest cycle, with several rows.
-fn accepted_records() {
-    read(
-        b"\x01\x00\x02\x00\x08\x02\x00\x04\x00\x01\x00\x05\x03\x00\x04\x00\x01\x00\x03\x04\x00\x0A\x00\x01\x00\x04\x00\x01\x00\x07\x00\x07\xFF\x00\x00",
-        5,
-    );
-    read(
-        b"\x01\x00\x02\x00\x08\x02\x00\x04\x00\x01\x00\x05\x03\x00\x00\x04\x00\x0A\x00\x01\x00\x04\x00\x01\x00\x07\x00\x07\xFF\x00\x00",
-        8192,
-    );
-    read(
-        b"\x01\x00\x02\x00\x01\x02\x00\x04\x00\x01\x00\x01\x03\x00\x00\x04\x00\x02\x00\x00\xFF\x00\x00",
-        1,
-    );
-    read(
-        b"\x01\x00\x02\xFF\xFF\x02\x00\x04\x00\x02\x00\x01\x03\x00\x04\x00\x05\x00\x03\x04\x00\x02\xFF\xFE\x04\x00\x02\x01\x00\xFF\x00\x00",
-        3,
-    );
-}
-
-// With four bytes in field 03 the same bytes; with an empty field 03 four more.
-fn written_again() {
-    again(
-        b"\x01\x00\x02\x00\x08\x02\x00\x04\x00\x01\x00\x05\x03\x00\x04\x00\x01\x00\x03\x04\x00\x0A\x00\x01\x00\x04\x00\x01\x00\x07\x00\x07\xFF\x00\x00",
-    );
-    again(
-        b"\x01\x00\x02\xFF\xFF\x02\x00\x04\x00\x02\x00\x01\x03\x00\x04\x00\x05\x00\x03\x04\x00\x02\xFF\xFE\x04\x00\x02\x01\x00\xFF\x00\x00",
-    );
-    again(
-        b"\x01\x00\x02\x00\x08\x02\x00\x04\x00\x01\x00\x05\x03\x00\x00\x04\x00\x0A\x00\x01\x00\x04\x00\x01\x00\x07\x00\x07\xFF\x00\x00",
-    );
-}
-
-fn written_records() {
-    write(shape(8, 1, 5, 1, 3), &[1, 4, 1, 7, 7], 35);
-    write(shape(8, 1, 5, 1, 3), &[1, 4, 1, 7, 7], 128);
-    write(shape(1, 1, 1, 1, 1), &[0], 27);
-    write(shape(65535, 2, 3, 3, 5), &[0, 256, 65534, 255, 511, 1], 40);
-    write(shape(4097, 4, 1, 9, 3), &[4096, 0, 300, 1], 60);
-    write(
-        shape(360, 1, 20, 3, 41),
-        &[
-            0,
-            19,
-            38,
-            57,
-            76,
-            95,
-            114,
-            133,
-            152,
-            171,
-            190,
-            209,
-            228,
-            247,
-            266,
-            285,
-            304,
-            323,
-            342,
-            359,
-        ],
-        100,
-    );
-}
-
-// The writer: 1 and 2.
-fn write_shape_faults() {
-    write(shape(0, 0, 5, 2, 3), &[9], 0);
-    write(shape(65536, 1, 5, 1, 3), &[1, 4, 1, 7, 7], 35);
-    write(shape(8, 0, 5, 2, 3), &[9], 0);
-    write(shape(8, 1025, 5, 1, 3), &[], 0);
-    write(shape(8, 1, 8193, 1, 3), &[], 0);
-}
-
-// 3 and 4.
-fn write_mask_faults() {
-    write(shape(8, 1, 5, 1, 4), &[9], 0);
-    write(shape(8, 1, 5, 257, 3), &[9], 0);
-    write(shape(8, 1, 5, 5, 3), &[9], 0);
-    write(shape(8, 1, 5, 1, 13), &[9], 0);
-}
-
-// 6, 7 and 9.
-fn write_memory_faults() {
-    write(shape(8, 1, 5, 1, 3), &[1, 9, 1, 7], 34);
-    write(shape(8, 1, 5, 1, 3), &[1, 4, 1, 7, 7, 7], 35);
-    write(shape(8, 1, 5, 1, 3), &[1, 9, 1, 7, 7], 34);
-    write(shape(8, 1, 5, 1, 3), &[1, 4, 8, 9, 7], 35);
-    write(shape(8, 2, 2, 1, 3), &[1, 7, 7, 8], 128);
-    write(shape(1024, 1, 1, 1, 1), &[65535], 27);
 }
 
 fn main() {
-    cycle_faults();
-    size_faults();
-    mask_faults();
-    row_faults();
-    end_faults();
-    accepted_records();
-    cuts();
-    changes();
-    written_again();
-    written_records();
-    write_shape_faults();
-    write_mask_faults();
-    write_memory_faults();
+    let mut bytes = [0u8; MOST_INPUT];
+    let n = input(&mut bytes);
+    run_all(&bytes[..n]);
 }

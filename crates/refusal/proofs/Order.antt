@@ -12,11 +12,11 @@ use Rattle.refusal.specs.Outcome.Outcome.{refused}
 use Rattle.refusal.proofs.Outcome.{refused-due}
 
 -- no rule of the list that is due has a number below n
-abbrev pub Least : ℕ → List Rule → Type 0
-Least n = Each (λ r. r .due ≡ true → n ≤ r .number)
+abbrev pub LowestDue : ℕ → List Rule → Type 0
+LowestDue n = Each (λ r. r .due ≡ true → n ≤ r .number)
 
 -- rules that rise from n on
-above : (n : ℕ) (rs : List Rule) (m : ℕ) → n ≤ m → RisingFrom m rs → Least n rs
+above : (n : ℕ) (rs : List Rule) (m : ℕ) → n ≤ m → RisingFrom m rs → LowestDue n rs
 above n [] m h rising = tt
 above n (r ∷ rs) m h rising =
     let up = rising .0 in
@@ -24,7 +24,7 @@ above n (r ∷ rs) m h rising =
     (λ d. up-to, above n rs (r .number) up-to (rising .1))
 
 -- rules of which the first that is due is the one at hand
-least-first : (by : Rule) (xs ys : List Rule) (m : ℕ) → Clear xs → RisingFrom m (xs ++ (by ∷ ys)) → Least (by .number) (xs ++ (by ∷ ys))
+least-first : (by : Rule) (xs ys : List Rule) (m : ℕ) → Clear xs → RisingFrom m (xs ++ (by ∷ ys)) → LowestDue (by .number) (xs ++ (by ∷ ys))
 least-first by [] ys m clear rising = let up : by .number ≤ by .number = omega arith in (λ d. up, above (by .number) ys (by .number) up (rising .1))
 least-first by (x ∷ xs) ys m clear rising =
     let rest = least-first by xs ys (x .number) (clear .1) (rising .1) in
@@ -33,7 +33,7 @@ least-first by (x ∷ xs) ys m clear rising =
 
 module _ {A : Type 0} (v : A) (rs : List Rule) {n k : ℕ} where
   -- "test in rising order of number": the lowest number of those that are due
-  pub least-told : Rising rs → firstDue rs v ≡ refused n k → Least n rs
+  pub least-told : Rising rs → firstDue rs v ≡ refused n k → LowestDue n rs
   least-told rising said =
       let d = refused-due v rs n k said in
       let least = least-first (d .by) (d .before) (d .after) 0 (d .clear) (subst Rising (d .split) rising) in

@@ -10,7 +10,7 @@ use Rattle.refusal.specs.declared.Refusal.{Refusal}
 use Rattle.refusal.specs.declared.Verdict.{Verdict}
 use Rattle.refusal.specs.declared.Verdict.the-variants.{Passed, Refused}
 use Rattle.refusal.specs.Table.{numberOf, placeOf}
-use Rattle.refusal.specs.Outcome.{Outcome, Rule, firstDue, Clear, refusal, verdict}
+use Rattle.refusal.specs.Outcome.{Outcome, Rule, firstDue, Clear, refusal, verdict, andThen, after}
 use Rattle.refusal.specs.Outcome.Outcome.{accepted, refused}
 
 -- what a comparison in code says of the same comparison in a rule, for `search`
@@ -97,12 +97,36 @@ module _ {A : Type 0} (v : A) where
             place = f .place;
           }
 
+-- what lent memory holds after a call
+module _ {A B : Type 0} {o : Outcome A} (new : A → B) (old : B) where
+  pub after-refused : {n k : ℕ} → o ≡ refused n k → after o new old ≡ old
+  after-refused e = rw e
+
+  pub after-accepted : {v : A} → o ≡ accepted v → after o new old ≡ new v
+  after-accepted e = rw e
+
 -- groups of tests are clear together exactly if each is
 pub clear-join : (xs ys : List Rule) → Clear xs → Clear ys → Clear (xs ++ ys)
 clear-join = each-append (λ r. r .due ≡ false)
 
 pub clear-split : (xs ys : List Rule) → Clear (xs ++ ys) → Clear xs × Clear ys
 clear-split = each-split (λ r. r .due ≡ false)
+
+-- a group of tests after another
+pub due-append : {A B : Type 0} (v : A) (w : B) (xs ys : List Rule) → firstDue (xs ++ ys) v ≡ andThen (firstDue xs w) (λ u. firstDue ys v)
+unfolding firstDue
+due-append v w [] ys = refl
+due-append v w (x ∷ xs) ys = go (x .due) refl (due-append v w xs ys)
+  where
+    go : (b : Bool) → x .due ≡ b → firstDue (xs ++ ys) v ≡ andThen (firstDue xs w) (λ u. firstDue ys v)
+        → firstDue (x ∷ (xs ++ ys)) v ≡ andThen (firstDue (x ∷ xs) w) (λ u. firstDue ys v)
+    go true d next = rw d
+    go false d next = rw d next
+
+-- what `first_of` says of two groups of tests whose verdicts it is given
+pub first-of-due : (xs ys : List Rule) {a b both : Outcome Unit} → a ≡ firstDue xs tt → b ≡ firstDue ys tt → both ≡ andThen a (λ u. b)
+    → both ≡ firstDue (xs ++ ys) tt
+first-of-due xs ys first second said = said ∙ rw (first, second) (sym (due-append tt tt xs ys))
 
 -- How a call goes on after a group of tests whose verdict it has: what the verdict says of the group, and of a list that begins with it.
 module _ (xs : List Rule) {r : Verdict} (said : verdict r ≡ firstDue xs tt) where

@@ -22,3 +22,7 @@ mostMaskRows = 255
 
 abbrev pub mostMaskColumns : ℕ
 mostMaskColumns = 255
+
+-- bytes of a record that the bench sheet takes: 14 is a "record above 16,384 bytes"
+abbrev pub mostBytes : ℕ
+mostBytes = 16384

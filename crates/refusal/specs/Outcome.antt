@@ -4,6 +4,7 @@ use Prim.Native.Nat.{ℕ, _≤_, _<_}
 use mathlib.Core.Path.{_≡_}
 use mathlib.Core.Bool.{Bool, false, cond}
 use mathlib.Core.List.{List, [], _∷_}
+use lib.Dec.{ltb, eqb}
 use Rattle.lists.specs.Members.{Each}
 use Rattle.refusal.specs.declared.Refusal.{Refusal}
 use Rattle.refusal.specs.declared.Verdict.{Verdict}
@@ -28,6 +29,10 @@ rule due number place = record { due = due; number = number; place = place }
 unfoldable pub firstDue : {A : Type 0} → List Rule → A → Outcome A
 firstDue [] result = accepted result
 firstDue (r ∷ rs) result = cond (r .due) (refused (r .number) (r .place)) (firstDue rs result)
+
+-- the tests of a number that may be 1 up to `most`: it is 0, or above
+abbrev pub rangeRules : ℕ → ℕ → ℕ → ℕ → List Rule
+rangeRules number place most x = rule (eqb x 0) number place ∷ rule (ltb most x) number place ∷ []
 
 -- no test of the list is due
 abbrev pub Clear : List Rule → Type 0
@@ -54,17 +59,12 @@ abbrev pub verdict : Verdict → Outcome Unit
 verdict Passed = accepted tt
 verdict (Refused r) = refusal r
 
--- what lent memory holds after a call: the new contents if it was accepted, and the old ones if it was refused
-abbrev pub leaves : {A B : Type 0} → Outcome A → B → B → B
-leaves (accepted result) new old = new
-leaves (refused number place) new old = old
-
 -- an outcome after another: the second call is made with the result of the first, and only if that was accepted
 abbrev pub andThen : {A B : Type 0} → Outcome A → (A → Outcome B) → Outcome B
 andThen (accepted result) next = next result
 andThen (refused number place) next = refused number place
 
--- what lent memory holds after a call, where its new contents depend on the result
+-- what lent memory holds after a call: the new contents, which may depend on the result, if it was accepted, else the old ones
 abbrev pub after : {A B : Type 0} → Outcome A → (A → B) → B → B
 after (accepted result) new old = new result
 after (refused number place) new old = old

@@ -3,6 +3,7 @@
 pub mod limits;
 
 ghost use mathlib.Core.Path.{_≡_};
+ghost use Rattle.refusal.specs.Outcome.{rangeRules, firstDue, verdict, andThen};
 ghost use Rattle.refusal.specs.Table.{numberOf, placeOf};
 
 pub enum Refusal {
@@ -40,6 +41,29 @@ pub enum Refusal {
 pub enum Verdict {
     Passed,
     Refused(Refusal),
+}
+
+// What two groups of tests find, the second after the first.
+pub fn first_of(a: Verdict, b: Verdict) -> Verdict
+    ensures { λ r. ⌜ verdict r ≡ andThen (verdict a) (λ u. verdict b) ⌝ }
+{
+    match a {
+        Verdict::Refused(f) => Verdict::Refused(f),
+        Verdict::Passed => b,
+    }
+}
+
+// The tests of a number that may be 1 up to `most`.
+pub fn range_verdict(x: usize, most: usize, f: Refusal) -> Verdict
+    ensures { λ r. ⌜ verdict r ≡ firstDue (rangeRules (numberOf f) (placeOf f) most x) tt ⌝ }
+{
+    if x == 0 {
+        return Verdict::Refused(f);
+    }
+    if most < x {
+        return Verdict::Refused(f);
+    }
+    Verdict::Passed
 }
 
 // The refusal's number in the table.

@@ -14,3 +14,6 @@ pub const MOST_COLUMNS: u32 = 8192;
 pub const MOST_MASK_ROWS: u32 = 255;
 
 pub const MOST_MASK_COLUMNS: u32 = 255;
+
+// Bytes of a record that the bench sheet takes.
+pub const MOST_BYTES: usize = 16384;

@@ -1,9 +1,10 @@
 -- What it says of a shape that its tests are clear. Assumes nothing.
-use Prim.Native.Nat.{ℕ, _+_, _*_, _%_, _≤_, _<_}
+use Prim.Native.Nat.{ℕ, _+_, _*_, _%_, _^_, _≤_, _<_}
 use mathlib.Core.Path.{_≡_}
 use native.Mathlib.Omega.{arith}
 use native.Mathlib.Nat.{mul-le-mul}
 use borrow.Author.Tests.{ltb-false, eqb-false}
+use Rattle.lists.proofs.Parts.{part-end}
 use Rattle.refusal.specs.Limits.{mostRows, mostColumns, mostMaskRows, mostMaskColumns}
 use Rattle.refusal.specs.Outcome.{Clear}
 use Rattle.shape.specs.declared.Shape.{Shape}
@@ -48,6 +49,17 @@ shape-clear limit s k =
       columns-reach = ltb-false (s .columns) _ (reflection .1 .0);
     }
 
+-- a product of two numbers of 32 bits fits 64
+pub product-fits : (a b : ℕ) → a < 2 ^ 32 → b < 2 ^ 32 + 1 → a * b < 2 ^ 64
+product-fits a b h g =
+    let p : a * b ≤ 4294967295 * 4294967296 = mul-le-mul {n₁ = a} {m₁ = b} {n₂ = 4294967295} {m₂ = 4294967296} (omega arith) (omega arith) in
+    omega arith
+
 -- the number of readings is small
 pub area-fits : {limit : ℕ} {s : Shape} → Accepted limit s → area s ≤ mostRows * mostColumns
 area-fits {limit} {s} a = mul-le-mul {n₁ = s .rows} {m₁ = s .columns} {n₂ = mostRows} {m₂ = mostColumns} (a .rows-fit) (a .columns-fit)
+
+-- row i ends within a buffer that has room for all readings, and at a small number
+pub row-room : {limit : ℕ} {s : Shape} → Accepted limit s → (i room : ℕ) → i < s .rows → area s ≤ room
+    → (i * s .columns + s .columns ≤ room) × (i * s .columns + s .columns ≤ mostRows * mostColumns)
+row-room {limit} {s} a i room h g = let end = part-end i (s .rows) (s .columns) h in (omega (arith, end), omega (arith, end, area-fits a))

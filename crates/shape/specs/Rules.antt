@@ -3,8 +3,9 @@ use Prim.Native.Nat.{ℕ, _*_, _/_, _%_}
 use mathlib.Core.Bool.{not}
 use mathlib.Core.List.{List, [], _∷_, _++_}
 use lib.Dec.{ltb, eqb}
+use lib.ListN.{take, drop}
 use Rattle.refusal.specs.Limits.{mostRows, mostColumns, mostMaskRows, mostMaskColumns}
-use Rattle.refusal.specs.Outcome.{Rule, rule}
+use Rattle.refusal.specs.Outcome.{Rule, rule, rangeRules}
 use Rattle.cycle.specs.Calls.{cycleRules}
 use Rattle.shape.specs.declared.Shape.{Shape}
 
@@ -14,11 +15,14 @@ reach side = side / 2
 
 -- 2: M or N outside its range
 abbrev pub sizeRules : ℕ → ℕ → List Rule
-sizeRules m n = rule (eqb m 0) 2 0 ∷ rule (ltb mostRows m) 2 0 ∷ rule (eqb n 0) 2 0 ∷ rule (ltb mostColumns n) 2 0 ∷ []
+sizeRules m n = rangeRules 2 0 mostRows m ++ rangeRules 2 0 mostColumns n
 
 -- 3: R or T even, which 0 is, or too long
+abbrev pub sideRules : ℕ → ℕ → List Rule
+sideRules most side = rule (eqb (side % 2) 0) 3 0 ∷ rule (ltb most side) 3 0 ∷ []
+
 abbrev pub maskRules : ℕ → ℕ → List Rule
-maskRules r t = rule (eqb (r % 2) 0) 3 0 ∷ rule (ltb mostMaskRows r) 3 0 ∷ rule (eqb (t % 2) 0) 3 0 ∷ rule (ltb mostMaskColumns t) 3 0 ∷ []
+maskRules r t = sideRules mostMaskRows r ++ sideRules mostMaskColumns t
 
 -- 4: one reflection is not enough
 abbrev pub reflectionRules : ℕ → ℕ → ℕ → ℕ → List Rule
@@ -35,6 +39,10 @@ shapeRules limit s =
 -- the number of readings of an image
 abbrev pub area : Shape → ℕ
 area s = s .rows * s .columns
+
+-- row i of an image of n columns, which is stored row by row
+abbrev pub rowOf : ℕ → List ℕ → ℕ → List ℕ
+rowOf n readings i = take n (drop (i * n) readings)
 
 -- 5: the range of rows
 abbrev pub rowsRules : ℕ → ℕ → ℕ → List Rule

@@ -17,15 +17,15 @@ use Rattle.refusal.specs.Limits.{longestCycle}
 use Rattle.refusal.specs.Outcome.{Clear}
 use Rattle.cycle.specs.Distance.{isReading}
 use Rattle.cycle.specs.Calls.{rowRules}
-use Rattle.cycle.proofs.Accepted.{clear-row}
-use Rattle.shape.specs.Rules.{area}
+use Rattle.cycle.proofs.Accepted.{clear-drift}
+use Rattle.shape.specs.Rules.{area, rowOf}
 use Rattle.shape.specs.declared.Shape.{Shape}
 use Rattle.median.proofs.Choice.{chosen-below}
 use Rattle.window.specs.Ready.{Ready}
 use Rattle.window.specs.Phase.{phase, phaseAt}
 use Rattle.window.proofs.Window.{sizes, centre-below}
 use Rattle.window.proofs.Phase.{phase-at}
-use Rattle.sheet_lines.specs.Lines.{headLine, rowLine, rowOf, imageLines}
+use Rattle.sheet_lines.specs.Lines.{headLine, rowLine, imageLines}
 use Rattle.sheet.specs.Sheet.{filteredImage}
 
 -- a row of an image, by its numbers
@@ -38,16 +38,16 @@ row-is n l k f room e =
     len = simp (length-take, length-drop) (omega arith)
 
 -- the lines of an image go by its rows
-pub lines-cong : (s : Shape) (p q : List ℕ) → ((i : ℕ) → i < s .rows → rowOf s p i ≡ rowOf s q i) → imageLines s p ≡ imageLines s q
+pub lines-cong : (s : Shape) (p q : List ℕ) → ((i : ℕ) → i < s .rows → rowOf (s .columns) p i ≡ rowOf (s .columns) q i) → imageLines s p ≡ imageLines s q
 unfolding imageLines
 lines-cong s p q e =
     ap (λ (l : List ℕ). headLine s ++ l)
-    (joined-cong (λ i. rowLine (s .cycle) i (rowOf s p i)) (λ i. rowLine (s .cycle) i (rowOf s q i)) 0 (s .rows)
+    (joined-cong (λ i. rowLine (s .cycle) i (rowOf (s .columns) p i)) (λ i. rowLine (s .cycle) i (rowOf (s .columns) q i)) 0 (s .rows)
     (λ i a b. ap (rowLine (s .cycle) i) (e i (omega arith))))
 
 module _ {limit : ℕ} {s : Shape} {image : List ℕ} (ready : Ready limit s image) (small : limit ≤ longestCycle) where
   -- a row of the filtered image
-  filtered-row : (i : ℕ) → i < s .rows → rowOf s (filteredImage s image) i ≡ tabulate (phaseAt s image) (i * s .columns) (s .columns)
+  filtered-row : (i : ℕ) → i < s .rows → rowOf (s .columns) (filteredImage s image) i ≡ tabulate (phaseAt s image) (i * s .columns) (s .columns)
   filtered-row i h =
       let e = part-end i (s .rows) (s .columns) h in
       row-is (s .columns) (filteredImage s image) (i * s .columns) (phaseAt s image) (omega (arith, length-tabulate (phaseAt s image) 0 (area s)))
@@ -55,7 +55,7 @@ module _ {limit : ℕ} {s : Shape} {image : List ℕ} (ready : Ready limit s ima
 
   -- stands in the output
   output-row : (output : List ℕ) → area s ≤ length output → (i : ℕ) → i < s .rows
-      → rowOf s (written (phaseAt s image) (0 * s .columns) (s .rows * s .columns) output) i ≡ tabulate (phaseAt s image) (i * s .columns) (s .columns)
+      → rowOf (s .columns) (written (phaseAt s image) (0 * s .columns) (s .rows * s .columns) output) i ≡ tabulate (phaseAt s image) (i * s .columns) (s .columns)
   output-row output room i h =
       let e = part-end i (s .rows) (s .columns) h in
       row-is (s .columns) _ (i * s .columns) (phaseAt s image)
@@ -72,8 +72,8 @@ module _ {limit : ℕ} {s : Shape} {image : List ℕ} (ready : Ready limit s ima
   phase-tick i j hi hj = rw (phase-at s image i j hj) (lt-ltb _ (s .cycle) (chosen-below (s .cycle) _ _ (centre-below ready small i j hi hj)))
 
   pub output-phases : (output : List ℕ) → area s ≤ length output → (i : ℕ) → i < s .rows
-      → Clear (rowRules (s .cycle) (rowOf s (written (phaseAt s image) (0 * s .columns) (s .rows * s .columns) output) i))
-  output-phases output room i h = rw (output-row output room i h) (clear-row (s .cycle) _ (record {
+      → Clear (rowRules (s .cycle) (rowOf (s .columns) (written (phaseAt s image) (0 * s .columns) (s .rows * s .columns) output) i))
+  output-phases output room i h = rw (output-row output room i h) (clear-drift (s .cycle) _ (record {
     cycle-some = sizes ready small .cycle-some;
     cycle-fits = omega (arith, sizes ready small .cycle-fits);
     some = omega (arith, length-tabulate (phaseAt s image) (i * s .columns) (s .columns), sizes ready small .columns-some);

@@ -7,7 +7,11 @@ use record::ReadAnswer;
 use refusal::Refusal;
 use refusal::Verdict;
 use refusal::limits::LEVEL_CYCLE;
+use refusal::limits::MOST_BYTES;
 use shape::Shape;
+use shape::area_of;
+use shape::level_need;
+pub use sheet_lines::MOST_TEXT;
 use sheet_lines::put_lines;
 use sheet_lines::put_refusal;
 ghost use mathlib.Core.Path.{_≡_};
@@ -15,15 +19,10 @@ ghost use Prim.Native.Nat.{_≤_};
 ghost use lib.ListN.{length};
 ghost use Rattle.refusal.specs.Outcome.{andThen};
 ghost use Rattle.refusal.specs.Outcome.Outcome.{accepted};
-ghost use Rattle.filter.specs.Calls.{roomCall};
-ghost use Rattle.record.specs.Calls.{readTold};
-ghost use Rattle.sheet.specs.Sheet.{mostText, engineFor, sheetCall, textLength, RecordFiltered, Sheet};
-
-// A record above so many bytes is refused.
-pub const MOST_BYTES: usize = 16384;
-
-// No text is longer than this.
-pub const MOST_TEXT: usize = 65536;
+ghost use Rattle.filter.specs.Calls.{roomDue};
+ghost use Rattle.record.specs.Calls.{readOutcome};
+ghost use Rattle.sheet_lines.specs.Lines.{mostText};
+ghost use Rattle.sheet.specs.Sheet.{engineFor, sheetDue, textLength, RecordFiltered, SheetCall};
 
 // The length of the whole text. Where it is above that of the text memory, the text was cut.
 pub enum SheetAnswer {
@@ -38,7 +37,7 @@ fn engine_for(shape: Shape, room: usize) -> Engine
     if LEVEL_CYCLE < shape.cycle {
         return Engine::Reading;
     }
-    if room < (shape.cycle as usize) * (shape.columns as usize + 1) {
+    if room < level_need(shape) {
         return Engine::Reading;
     }
     Engine::Level
@@ -46,7 +45,7 @@ fn engine_for(shape: Shape, room: usize) -> Engine
 
 // The filter's tests of a good image: its shape, if there is room to filter it.
 fn room_answer(shape: Shape, output: usize, work: usize) -> ReadAnswer
-    ensures { λ r. ⌜ readTold r ≡ andThen (roomCall (engineFor shape work) shape output work) (λ u. accepted shape) ⌝ }
+    ensures { λ r. ⌜ readOutcome r ≡ andThen (roomDue (engineFor shape work) shape output work) (λ u. accepted shape) ⌝ }
 {
     match room_verdict(engine_for(shape, work), shape, output, work) {
         Verdict::Refused(f) => ReadAnswer::Refused(f),
@@ -56,7 +55,7 @@ fn room_answer(shape: Shape, output: usize, work: usize) -> ReadAnswer
 
 // All tests of a sheet, for buffers of so many numbers: 14, then the reader's, then the filter's.
 fn sheet_verdict(bytes: &[u8], readings: usize, output: usize, work: usize) -> ReadAnswer
-    ensures { λ r. ⌜ readTold r ≡ sheetCall (now (bytes .entry)) readings output work ⌝ }
+    ensures { λ r. ⌜ readOutcome r ≡ sheetDue (now (bytes .entry)) readings output work ⌝ }
 {
     if MOST_BYTES < bytes.len() {
         return ReadAnswer::Refused(Refusal::Record);
@@ -75,11 +74,11 @@ fn filter_record(
     output: &mut [u16],
     work: &mut [u32],
 )
-    requires { ⌜ sheetCall (now bytes) (length (now readings)) (length (now output)) (length (now work)) ≡ accepted shape ⌝ }
+    requires { ⌜ sheetDue (now bytes) (length (now readings)) (length (now output)) (length (now work)) ≡ accepted shape ⌝ }
     ensures { λ _. ⌜ RecordFiltered shape (now (bytes .entry)) (now (readings .entry)) (now (output .entry)) (now (work .entry)) (now (readings .exit)) (now (output .exit)) (now (work .exit)) ⌝ }
 {
     let start = 0;
-    let area = (shape.rows as usize) * (shape.columns as usize);
+    let area = area_of(shape);
     let engine = engine_for(shape, work.len());
     record::read(bytes, readings);
     filter::run(
@@ -101,7 +100,7 @@ pub fn sheet(
     work: &mut [u32],
     text: &mut [u8],
 ) -> SheetAnswer
-    ensures { λ r. ⌜ Sheet (now (bytes .entry)) (now (readings .entry)) (now (output .entry)) (now (work .entry)) (now (text .entry)) r (now (readings .exit)) (now (output .exit)) (now (work .exit)) (now (text .exit)) ⌝ }
+    ensures { λ r. ⌜ SheetCall (now (bytes .entry)) (now (readings .entry)) (now (output .entry)) (now (work .entry)) (now (text .entry)) r (now (readings .exit)) (now (output .exit)) (now (work .exit)) (now (text .exit)) ⌝ }
     ensures { λ r. ⌜ textLength r ≤ mostText ⌝ }
 {
     match sheet_verdict(bytes, readings.len(), output.len(), work.len()) {

@@ -8,9 +8,9 @@ use Rattle.refusal.specs.Outcome.{Outcome, Clear}
 use Rattle.refusal.specs.Outcome.Outcome.{accepted, refused}
 use Rattle.refusal.proofs.Outcome.{clear-accepted}
 use Rattle.cycle.specs.Step.{drift}
-use Rattle.cycle.specs.Calls.{rowRules, driftCall, driftTold}
-use Rattle.cycle.specs.declared.DriftAnswer.{DriftAnswer}
-use Rattle.cycle.specs.declared.DriftAnswer.the-variants as drifts
+use Rattle.cycle.specs.Calls.{rowRules, driftDue, signedOutcome}
+use Rattle.cycle.specs.declared.SignedAnswer.{SignedAnswer}
+use Rattle.cycle.specs.declared.SignedAnswer.the-variants as signs
 
 abbrev value : Outcome ℤ → ℤ
 value (accepted d) = d
@@ -20,13 +20,13 @@ abbrev isAccepted : Outcome ℤ → Type 0
 isAccepted (accepted d) = Unit
 isAccepted (refused number place) = ⊥
 
-module _ (c : ℕ) (row : List ℕ) (r : DriftAnswer) (clear : Clear (rowRules c row)) (said : driftTold r ≡ driftCall c row) where
-  taken : driftTold r ≡ accepted (drift c row)
-  unfolding driftCall
+module _ (c : ℕ) (row : List ℕ) (r : SignedAnswer) (clear : Clear (rowRules c row)) (said : signedOutcome r ≡ driftDue c row) where
+  taken : signedOutcome r ≡ accepted (drift c row)
+  unfolding driftDue
   taken = said ∙ clear-accepted (drift c row) (rowRules c row) clear
 
-  pub told-drift : {d : ℤ} → r ≡ drifts.Drift d → d ≡ drift c row
-  told-drift is = ap value (sym (ap driftTold is) ∙ taken)
+  pub told-drift : {d : ℤ} → r ≡ signs.Signed d → d ≡ drift c row
+  told-drift is = ap value (sym (ap signedOutcome is) ∙ taken)
 
-  pub never-refused : {f : Refusal} → r ≡ drifts.Refused f → ⊥
-  never-refused is = subst isAccepted (sym taken ∙ ap driftTold is) tt
+  pub never-refused : {f : Refusal} → r ≡ signs.Refused f → ⊥
+  never-refused is = subst isAccepted (sym taken ∙ ap signedOutcome is) tt

@@ -11,7 +11,7 @@ use lib.ListN.{length, drop, length-append, length-take}
 use Rattle.lists.specs.Members.{Each}
 use Rattle.lists.specs.Joined.{joined}
 use Rattle.lists.proofs.First.{all-good}
-use Rattle.refusal.specs.Limits.{longestCycle, mostRows, mostColumns}
+use Rattle.refusal.specs.Limits.{longestCycle, mostRows, mostColumns, mostBytes}
 use Rattle.cycle.specs.Distance.{isReading}
 use Rattle.cycle.specs.Step.{drift}
 use Rattle.shape.specs.declared.Shape.{Shape}
@@ -19,9 +19,10 @@ use Rattle.text.specs.Text.{decimal}
 use Rattle.text.proofs.TextLaws.{decimal-short, decimal-most, signed-short, signed-most}
 use Rattle.refusal.specs.Outcome.{Clear}
 use Rattle.cycle.specs.Calls.{rowRules}
-use Rattle.cycle.proofs.Accepted.{row-clear}
+use Rattle.cycle.proofs.Accepted.{drift-clear}
 use Rattle.cycle.proofs.Sizes.{drift-size}
-use Rattle.sheet_lines.specs.Lines.{counted, refusalLine, headLine, phaseWords, rowLine, rowOf, imageLines}
+use Rattle.shape.specs.Rules.{rowOf}
+use Rattle.sheet_lines.specs.Lines.{mostText, counted, refusalLine, headLine, phaseWords, rowLine, imageLines}
 
 -- a word and a number, whatever the number is
 pub counted-most : (word : List ℕ) (n : ℕ) → length (counted word n) ≤ length word + 20
@@ -74,36 +75,36 @@ joined-short f w a (suc n) e =
 
 -- the lines of the first i rows of an image, whatever its phases are
 pub rows-most : (s : Shape) (phases : List ℕ) (i : ℕ) → s .columns ≤ mostColumns → i ≤ mostRows
-    → length (joined (λ k. rowLine (s .cycle) k (rowOf s phases k)) 0 i) ≤ mostRows * (54 + 21 * mostColumns)
+    → length (joined (λ k. rowLine (s .cycle) k (rowOf (s .columns) phases k)) 0 i) ≤ mostRows * (54 + 21 * mostColumns)
 rows-most s phases i n m =
     let all : i * (54 + 21 * mostColumns) ≤ mostRows * (54 + 21 * mostColumns) = mul-le-mul-right (54 + 21 * mostColumns) m in
-    omega (arith, all, joined-short (λ k. rowLine (s .cycle) k (rowOf s phases k)) (54 + 21 * mostColumns) 0 i (λ k a b. one k))
+    omega (arith, all, joined-short (λ k. rowLine (s .cycle) k (rowOf (s .columns) phases k)) (54 + 21 * mostColumns) 0 i (λ k a b. one k))
   where
-    one : (k : ℕ) → length (rowLine (s .cycle) k (rowOf s phases k)) ≤ 54 + 21 * mostColumns
-    one k = omega (arith, row-most (s .cycle) k (rowOf s phases k), length-take (s .columns) (drop (k * s .columns) phases))
+    one : (k : ℕ) → length (rowLine (s .cycle) k (rowOf (s .columns) phases k)) ≤ 54 + 21 * mostColumns
+    one k = omega (arith, row-most (s .cycle) k (rowOf (s .columns) phases k), length-take (s .columns) (drop (k * s .columns) phases))
 
--- The lines of an image, by its rows' sizes: where its row fields have at most 16,384 bytes, it is at most 65,536. A row's line has at most
+-- The lines of an image, by its rows' sizes: where its row fields have at most `mostBytes` bytes, it is at most `mostText`. A row's line has at most
 -- three bytes for each byte of its field, and 15 more where it has at most 30 phases, 18 where its drift may be longer; but of such rows
 -- there are at most 252.
-module _ (s : Shape) (phases : List ℕ) (m : s .rows ≤ mostRows) (n : s .columns ≤ mostColumns) (bytes : s .rows * (3 + 2 * s .columns) ≤ 16384)
-    (each : (i : ℕ) → i < s .rows → Clear (rowRules (s .cycle) (rowOf s phases i))) where
+module _ (s : Shape) (phases : List ℕ) (m : s .rows ≤ mostRows) (n : s .columns ≤ mostColumns) (bytes : s .rows * (3 + 2 * s .columns) ≤ mostBytes)
+    (each : (i : ℕ) → i < s .rows → Clear (rowRules (s .cycle) (rowOf (s .columns) phases i))) where
   -- the lines of the rows, where a drift has at most k + 2 bytes
   rows-short : (k : ℕ) → s .columns * 32767 < 10 ^ (k + 1)
-      → length (joined (λ i. rowLine (s .cycle) i (rowOf s phases i)) 0 (s .rows)) ≤ s .rows * (19 + s .columns * 6 + k)
+      → length (joined (λ i. rowLine (s .cycle) i (rowOf (s .columns) phases i)) 0 (s .rows)) ≤ s .rows * (19 + s .columns * 6 + k)
   rows-short k d =
-      joined-short (λ i. rowLine (s .cycle) i (rowOf s phases i)) (19 + s .columns * 6 + k) 0 (s .rows) (λ i a b. one i (omega arith))
+      joined-short (λ i. rowLine (s .cycle) i (rowOf (s .columns) phases i)) (19 + s .columns * 6 + k) 0 (s .rows) (λ i a b. one i (omega arith))
     where
-      one : (i : ℕ) → i < s .rows → length (rowLine (s .cycle) i (rowOf s phases i)) ≤ 19 + s .columns * 6 + k
+      one : (i : ℕ) → i < s .rows → length (rowLine (s .cycle) i (rowOf (s .columns) phases i)) ≤ 19 + s .columns * 6 + k
       one i h =
-          let p = row-clear (s .cycle) (rowOf s phases i) (each i h) in
-          let l : length (rowOf s phases i) ≤ s .columns = omega (arith, length-take (s .columns) (drop (i * s .columns) phases)) in
-          omega (arith, row-short (p .cycle-fits) i (rowOf s phases i) k (omega arith) (all-good (isReading (s .cycle)) _ (p .good)) (omega arith))
+          let p = drift-clear (s .cycle) (rowOf (s .columns) phases i) (each i h) in
+          let l : length (rowOf (s .columns) phases i) ≤ s .columns = omega (arith, length-take (s .columns) (drop (i * s .columns) phases)) in
+          omega (arith, row-short (p .cycle-fits) i (rowOf (s .columns) phases i) k (omega arith) (all-good (isReading (s .cycle)) _ (p .good)) (omega arith))
 
-  pub lines-short : length (imageLines s phases) ≤ 65536
+  pub lines-short : length (imageLines s phases) ≤ mostText
   unfolding imageLines
   lines-short = rw length-append (go (decLe (s .columns) 30))
     where
-      go : Dec (s .columns ≤ 30) → length (headLine s) + length (joined (λ i. rowLine (s .cycle) i (rowOf s phases i)) 0 (s .rows)) ≤ 65536
+      go : Dec (s .columns ≤ 30) → length (headLine s) + length (joined (λ i. rowLine (s .cycle) i (rowOf (s .columns) phases i)) 0 (s .rows)) ≤ mostText
       go (yes h) = omega (arith, head-short s, rows-short 5 (omega arith))
       go (no h) =
           let wide : s .rows * 31 ≤ s .rows * s .columns = mul-le-mul-left (s .rows) (omega arith) in

@@ -1,10 +1,10 @@
 -- Document 01, "The bench sheet": the lines that are printed, as bytes.
-use Prim.Native.Nat.{ℕ, _*_}
+use Prim.Native.Nat.{ℕ}
 use mathlib.Core.List.{List, [], _∷_, _++_}
-use lib.ListN.{take, drop}
 use Rattle.lists.specs.Joined.{joined}
 use Rattle.cycle.specs.Step.{drift}
 use Rattle.shape.specs.declared.Shape.{Shape}
+use Rattle.shape.specs.Rules.{rowOf}
 use Rattle.text.specs.Text.{decimal, signed}
 use Rattle.sheet_lines.specs.Words.{refusedWord, atWord, cycleWord, rowsWord, columnsWord, maskWord, space, rowWord, colon, driftWord, lineEnd}
 
@@ -31,10 +31,10 @@ phaseWords (p ∷ ps) = counted space p ++ phaseWords ps
 abbrev pub rowLine : ℕ → ℕ → List ℕ → List ℕ
 rowLine c i phases = counted rowWord i ++ (colon ++ (phaseWords phases ++ (driftWord ++ (signed (drift c phases) ++ lineEnd))))
 
--- row i of an image that is stored row by row
-abbrev pub rowOf : Shape → List ℕ → ℕ → List ℕ
-rowOf s phases i = take (s .columns) (drop (i * s .columns) phases)
-
 -- the lines of a filtered image
 unfoldable pub imageLines : Shape → List ℕ → List ℕ
-imageLines s phases = headLine s ++ joined (λ i. rowLine (s .cycle) i (rowOf s phases i)) 0 (s .rows)
+imageLines s phases = headLine s ++ joined (λ i. rowLine (s .cycle) i (rowOf (s .columns) phases i)) 0 (s .rows)
+
+-- no text of a record that the sheet takes is longer (`lines-short`)
+abbrev pub mostText : ℕ
+mostText = 65536

@@ -1,7 +1,7 @@
 // The lines of the bench sheet, laid into lent memory one after the other. Each function returns the place
 // after its line; where there is no room left the text is cut, and the place goes on counting (see `text`).
 // Internal: that the places fit 64 bits and that each row has a drift is asked of the caller.
-use cycle::DriftAnswer;
+use cycle::SignedAnswer;
 use refusal::Refusal;
 use shape::Shape;
 use text::put_byte;
@@ -16,10 +16,13 @@ ghost use Rattle.refusal.specs.Table.{numberOf, placeOf};
 ghost use Rattle.refusal.specs.Outcome.{Clear};
 ghost use Rattle.cycle.specs.Calls.{rowRules};
 ghost use Rattle.cycle.specs.Step.{drift};
-ghost use Rattle.shape.specs.Rules.{area};
+ghost use Rattle.shape.specs.Rules.{area, rowOf};
 ghost use Rattle.text.specs.Text.{Laid};
 ghost use Rattle.sheet_lines.specs.Words.{space};
-ghost use Rattle.sheet_lines.specs.Lines.{counted, refusalLine, headLine, phaseWords, rowLine, rowOf, imageLines};
+ghost use Rattle.sheet_lines.specs.Lines.{counted, refusalLine, headLine, phaseWords, rowLine, imageLines};
+
+// No text of a record that the sheet takes is longer.
+pub const MOST_TEXT: usize = 65536;
 
 // A word and a number after it.
 fn put_counted(text: &mut [u8], at: usize, word: &[u8], n: u64) -> usize
@@ -78,8 +81,8 @@ fn row_drift(cycle: u32, row: &[u16]) -> i32
     ensures { λ r. ⌜ r ≡ drift cycle (now (row .entry)) ⌝ }
 {
     match cycle::drift(cycle, row) {
-        DriftAnswer::Drift(d) => d,
-        DriftAnswer::Refused(_) => 0,
+        SignedAnswer::Signed(d) => d,
+        SignedAnswer::Refused(_) => 0,
     }
 }
 
@@ -99,7 +102,7 @@ fn put_row(text: &mut [u8], at: usize, cycle: u32, i: usize, row: &[u16]) -> usi
 // All lines of a filtered image.
 pub fn put_lines(text: &mut [u8], shape: Shape, phases: &[u16]) -> usize
     requires { ⌜ (shape .rows ≤ mostRows) × (shape .columns ≤ mostColumns) × (area shape ≤ length (now phases)) ⌝ }
-    requires { ⌜ ((i : ℕ) → i < shape .rows → Clear (rowRules (shape .cycle) (rowOf shape (now phases) i))) ⌝ }
+    requires { ⌜ ((i : ℕ) → i < shape .rows → Clear (rowRules (shape .cycle) (rowOf (shape .columns) (now phases) i))) ⌝ }
     ensures { λ r. ⌜ Laid (now (text .entry)) 0 (imageLines shape (now (phases .entry))) r (now (text .exit)) ⌝ }
 {
     let columns = shape.columns as usize;

@@ -4,14 +4,15 @@
 // internal: its `requires` is met by the text memory of the programs.
 use libc::STDIN_FILENO;
 use libc::STDOUT_FILENO;
-use sheet::MOST_BYTES;
+use refusal::limits::MOST_BYTES;
 use sheet::MOST_TEXT;
 use sheet::SheetAnswer;
 use sheet::sheet;
 ghost use mathlib.Core.Path.{_≡_};
 ghost use Prim.Native.Nat.{_≤_};
 ghost use lib.ListN.{length};
-ghost use Rattle.sheet.specs.Sheet.{mostText, textLength, Sheet};
+ghost use Rattle.sheet_lines.specs.Lines.{mostText};
+ghost use Rattle.sheet.specs.Sheet.{textLength, SheetCall};
 
 // "Its work memory has 16,384 numbers, its readings and output buffers 8,192 each."
 const BUFFER: usize = 8192;
@@ -37,7 +38,7 @@ pub fn print_sheet(
     text: &mut [u8],
 ) -> SheetAnswer
     requires { ⌜ mostText ≤ length (now text) ⌝ }
-    ensures { λ r. ⌜ Sheet (now (bytes .entry)) (now (readings .entry)) (now (output .entry)) (now (work .entry)) (now (text .entry)) r (now (readings .exit)) (now (output .exit)) (now (work .exit)) (now (text .exit)) ⌝ }
+    ensures { λ r. ⌜ SheetCall (now (bytes .entry)) (now (readings .entry)) (now (output .entry)) (now (work .entry)) (now (text .entry)) r (now (readings .exit)) (now (output .exit)) (now (work .exit)) (now (text .exit)) ⌝ }
 {
     let start = 0;
     let answer = sheet(bytes, readings, output, work, text);

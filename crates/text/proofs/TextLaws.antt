@@ -9,7 +9,7 @@ use native.Mathlib.Numerals.{add-one}
 use borrow.Author.Tests.{lt-ltb, le-ltb}
 use lib.IntN.{ℤ, pos, negsuc, natAbs}
 use lib.ListN.{length, take, drop, set, length-append, length-take, length-drop, take-append-drop, drop-of-length-le}
-use lib.Seq.{take-all, take-at, drop-at, drop-drop, drop-nil, take-append-le, take-append-add, set-split}
+use lib.Seq.{take-all, take-at, drop-at, drop-drop, take-append-le, take-append-add, set-split}
 use Rattle.text.specs.Text.{digits, decimal, signed, laid, Laid}
 
 -- memory after bytes for which there is room, and after bytes that reach its end

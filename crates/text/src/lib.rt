@@ -2,8 +2,10 @@
 // place after its piece. Where there is no room left it lays what fits and drops the rest, and the place
 // goes on counting, so that the last one is the length of the whole text. Internal: each asks that this
 // count fits 64 bits, which the caller meets.
+ghost use mathlib.Core.Path.{_≡_};
 ghost use mathlib.Core.List.{[], _∷_};
 ghost use Prim.Native.Nat.{_+_, _^_, _<_};
+ghost use lib.IntN.{natAbs};
 ghost use lib.ListN.{length};
 ghost use Rattle.text.specs.Text.{decimal, signed, Laid};
 
@@ -48,6 +50,16 @@ pub fn put_decimal(text: &mut [u8], at: usize, n: u64) -> usize
     put_bytes(text, at, &digits[first..])
 }
 
+// A number without its sign.
+pub fn size(x: i32) -> u32
+    ensures { λ r. ⌜ r ≡ natAbs x ⌝ }
+{
+    if x < 0 {
+        return (-1 - x) as u32 + 1;
+    }
+    x as u32
+}
+
 // A number in decimal, with a sign only below 0.
 pub fn put_signed(text: &mut [u8], at: usize, n: i32) -> usize
     requires { ⌜ at + 21 < 2 ^ 64 ⌝ }
@@ -55,7 +67,7 @@ pub fn put_signed(text: &mut [u8], at: usize, n: i32) -> usize
 {
     if n < 0 {
         let place = put_byte(text, at, 45);
-        return put_decimal(text, place, cycle::size(n) as u64);
+        return put_decimal(text, place, size(n) as u64);
     }
-    put_decimal(text, at, cycle::size(n) as u64)
+    put_decimal(text, at, size(n) as u64)
 }

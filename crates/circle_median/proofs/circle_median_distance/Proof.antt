@@ -1,6 +1,6 @@
 -- `circle_median::circle_median_distance` meets its contract. Assumes nothing.
 use Prim.Native.Nat.{ℕ}
-use mathlib.Core.Path.{_≡_, ap, _∙_}
+use mathlib.Core.Path.{ap, _∙_}
 use native.Mathlib.Omega.{arith}
 use borrow.Author.Needs.{needs}
 use lib.IntN.{ℤ}
@@ -11,24 +11,6 @@ use Rattle.refusal.specs.Outcome.Outcome.{accepted}
 use Rattle.circle_median.specs.Answers.{valueOf, natural}
 use Rattle.circle_median.proofs.circle_median_distance.Statement.{statement}
 use Rattle.circle_median.proofs.circle_median_distance.Tie as tie
-
-distance-requires : tie.Need-distance-requires
-distance-requires c κs = search needs
-
-enum-known-f : tie.Need-enum-known-f
-enum-known-f c = search needs
-
-refused-value-requires : tie.Need-refused-value-requires
-refused-value-requires c κs = search needs
-
-enum-known-d : tie.Need-enum-known-d
-enum-known-d c = search needs
-
-cast-value-answer : tie.Need-cast-value-answer
-cast-value-answer c = search needs
-
-value-answer-requires : tie.Need-value-answer-requires
-value-answer-requires c κs = search needs
 
 returns : tie.Need-returns
 returns c =
@@ -45,11 +27,11 @@ pub circle-median-distance-spec : {M : Type 1} → statement M
 circle-median-distance-spec =
     tie.close
     (tie.spec
-    distance-requires
-    enum-known-f
-    refused-value-requires
-    enum-known-d
-    cast-value-answer
-    value-answer-requires
+    (λ c κs. search needs)
+    (λ c. search needs)
+    (λ c κs. search needs)
+    (λ c. search needs)
+    (λ c. search needs)
+    (λ c κs. search needs)
     returns
     returns-2)

@@ -1,32 +1,11 @@
 -- `circle_median::circle_median_slot` meets its contract. Assumes nothing.
 use mathlib.Core.Bool.{Bool}
-use mathlib.Core.Path.{_≡_, ap, _∙_}
+use mathlib.Core.Path.{ap, _∙_}
 use borrow.Author.Needs.{needs}
 use Rattle.refusal.specs.Outcome.{Outcome}
 use Rattle.circle_median.specs.Answers.{valueOf, flag}
 use Rattle.circle_median.proofs.circle_median_slot.Statement.{statement}
 use Rattle.circle_median.proofs.circle_median_slot.Tie as tie
-
-slot-requires : tie.Need-slot-requires
-slot-requires c κs = search needs
-
-enum-known-f : tie.Need-enum-known-f
-enum-known-f c = search needs
-
-refused-value-requires : tie.Need-refused-value-requires
-refused-value-requires c κs = search needs
-
-enum-told : tie.Need-enum-told
-enum-told c = search needs
-
-value-answer-requires : tie.Need-value-answer-requires
-value-answer-requires c κs = search needs
-
-enum-told-2 : tie.Need-enum-told-2
-enum-told-2 c = search needs
-
-value-answer-requires-2 : tie.Need-value-answer-requires-2
-value-answer-requires-2 c κs = search needs
 
 returns : tie.Need-returns
 returns c =
@@ -47,13 +26,13 @@ pub circle-median-slot-spec : {M : Type 1} → statement M
 circle-median-slot-spec =
     tie.close
     (tie.spec
-    slot-requires
-    enum-known-f
-    refused-value-requires
-    enum-told
-    value-answer-requires
-    enum-told-2
-    value-answer-requires-2
+    (λ c κs. search needs)
+    (λ c. search needs)
+    (λ c κs. search needs)
+    (λ c. search needs)
+    (λ c κs. search needs)
+    (λ c. search needs)
+    (λ c κs. search needs)
     returns
     returns-2
     returns-3)

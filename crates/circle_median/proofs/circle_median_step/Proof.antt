@@ -1,57 +1,17 @@
 -- `circle_median::circle_median_step` meets its contract. Assumes nothing.
-use Prim.Native.Nat.{_^_, _<_}
-use mathlib.Core.Path.{_≡_, ap, _∙_}
+use mathlib.Core.Path.{ap, _∙_}
 use borrow.Author.Needs.{needs}
-use lib.IntN.{ℤ}
-use lib.Signed.{mag}
-use Rattle.refusal.specs.Outcome.Outcome.{accepted}
 use Rattle.cycle.proofs.Sizes.{step-told}
 use Rattle.circle_median.specs.Answers.{valueOf}
-use Rattle.circle_median.proofs.Values.{widened-fits, widened}
+use Rattle.circle_median.proofs.Values.{narrow}
 use Rattle.circle_median.proofs.circle_median_step.Statement.{statement}
 use Rattle.circle_median.proofs.circle_median_step.Tie as tie
 
--- the step that was told fits 32 bits
-small : (c : tie.After-known-told2) → mag (c .before .s .given .0 .0) < 2 ^ 31
-small c =
-    let a = c .before .before .before .before .args in
-    step-told (a .cycle) (a .a) (a .b) (rw (c .before .s .given .1) at (c .before .before .before .step .ensures))
-
-step-requires : tie.Need-step-requires
-step-requires c κs = search needs
-
-enum-known-f : tie.Need-enum-known-f
-enum-known-f c = search needs
-
-refused-value-requires : tie.Need-refused-value-requires
-refused-value-requires c κs = search needs
-
-enum-known-s : tie.Need-enum-known-s
-enum-known-s c = search needs
-
-cast-value-answer : tie.Need-cast-value-answer
-cast-value-answer c = widened-fits (c .before .s .given .0 .0) (small c)
-
-value-answer-requires : tie.Need-value-answer-requires
-value-answer-requires c κs = search needs
+signed-answer-requires : tie.Need-signed-answer-requires
+signed-answer-requires c κs = let a = c .before .args in narrow (c .step .result) (c .step .ensures) (λ v said. step-told (a .cycle) (a .a) (a .b) said)
 
 returns : tie.Need-returns
-returns c = c .refused-value .ensures ∙ ap valueOf (rw (c .before .before .f .given .1) at (c .before .before .before .before .step .ensures))
-
-returns-2 : tie.Need-returns-2
-returns-2 c =
-    c .value-answer .ensures ∙ ap (λ (z : ℤ). valueOf (accepted z)) (widened _ (small (c .before)))
-    ∙ ap valueOf (rw (c .before .before .s .given .1) at (c .before .before .before .before .step .ensures))
+returns c = c .signed-answer .ensures ∙ ap valueOf (c .before .step .ensures)
 
 pub circle-median-step-spec : {M : Type 1} → statement M
-circle-median-step-spec =
-    tie.close
-    (tie.spec
-    step-requires
-    enum-known-f
-    refused-value-requires
-    enum-known-s
-    cast-value-answer
-    value-answer-requires
-    returns
-    returns-2)
+circle-median-step-spec = tie.close (tie.spec (λ c κs. search needs) signed-answer-requires returns)

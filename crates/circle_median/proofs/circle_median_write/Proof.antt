@@ -1,78 +1,62 @@
 -- `circle_median::circle_median_write` meets its contract. Assumes nothing.
-use Prim.Native.Nat.{ℕ, _^_, _<_}
-use mathlib.Core.Path.{ap, _∙_}
+use Prim.Native.Nat.{_^_, _<_}
+use mathlib.Core.Path.{ap, sym, _∙_}
 use borrow.Author.Needs.{needs}
 use lib.IntN.{ℤ}
 use lib.ListN.{length}
 use mir.Facts.{toZ-pos}
 use mir.Syntax.{w64}
-use Rattle.refusal.specs.Outcome.{Outcome}
 use Rattle.refusal.specs.Outcome.Outcome.{accepted}
-use Rattle.record.specs.Calls.{Writes}
-use Rattle.circle_median.specs.Answers.{shapeOf, valueOf, natural}
+use Rattle.record.specs.Calls.{writeOutcome}
+use Rattle.record.specs.declared.WriteAnswer.{WriteAnswer}
+use Rattle.circle_median.specs.Answers.{valueOf, natural}
+use Rattle.circle_median.proofs.Told.{exported-write}
 use Rattle.circle_median.proofs.Values.{length-told}
 use Rattle.circle_median.proofs.circle_median_write.Statement.{statement}
 use Rattle.circle_median.proofs.circle_median_write.Tie as tie
 
+-- the shape, from the writer's answer
+abbrev shaped : tie.After-write → tie.After-shape-of
+shaped c = c .before .before
+
 -- the length that was told fits
 small : (c : tie.After-known-told2) → c .before .n .given .0 .0 < 2 ^ 63
 small c =
-    let a = c .before .before .before .before .before .before .before .before .before .before .args in
-    let w = rw (c .before .n .given .1) at (c .before .before .before .before .before .write .ensures) in
+    let k = c .before .before .before .before .before in
+    let a = shaped k .before .before .before .args in
+    let w = rw (c .before .n .given .1) at (k .write .ensures) in
     length-told _ (a .readings .now) (length (a .bytes .now)) (w .answer)
-
-shape-of-requires : tie.Need-shape-of-requires
-shape-of-requires c κs = search needs
-
-write-requires : tie.Need-write-requires
-write-requires c κs = search needs
-
-enum-known-f : tie.Need-enum-known-f
-enum-known-f c = search needs
-
-refused-value-requires : tie.Need-refused-value-requires
-refused-value-requires c κs = search needs
-
-enum-known-n : tie.Need-enum-known-n
-enum-known-n c = search needs
 
 cast-value-answer : tie.Need-cast-value-answer
 cast-value-answer c = record { sfits = small c }
 
-value-answer-requires : tie.Need-value-answer-requires
-value-answer-requires c κs = search needs
-
-same-length : tie.Need-same-length
-same-length c = search needs
-
 returns : tie.Need-returns
 returns c =
-    let w = rw (c .before .before .before .before .before .before .before .before .shape-of .ensures, c .before .before .f .given .1) at (c .before .before .before .before .before .before .write .ensures) in
-    record { answer = c .refused-value .ensures ∙ ap (λ (o : Outcome ℕ). valueOf (natural o)) (w .answer); memory = w .memory }
-
-same-length-2 : tie.Need-same-length-2
-same-length-2 c = search needs
+    let f = c .before .before in
+    let k = f .before .before .before .before in
+    exported-write (rw (shaped k .shape-of .ensures) at (k .write .ensures))
+    (c .refused-value .ensures ∙ ap (λ (r : WriteAnswer). valueOf (natural (writeOutcome r))) (sym (f .f .given .1)))
 
 returns-2 : tie.Need-returns-2
 returns-2 c =
-    let w = rw (c .before .before .before .before .before .before .before .before .shape-of .ensures, c .before .before .n .given .1) at (c .before .before .before .before .before .before .write .ensures) in
-    record {
-      answer = c .value-answer .ensures ∙ ap (λ (z : ℤ). valueOf (accepted z)) (toZ-pos w64 (small (c .before))) ∙ ap (λ (o : Outcome ℕ). valueOf (natural o)) (w .answer);
-      memory = w .memory;
-    }
+    let n = c .before .before in
+    let k = n .before .before .before .before in
+    exported-write (rw (shaped k .shape-of .ensures) at (k .write .ensures))
+    (c .value-answer .ensures ∙ ap (λ (z : ℤ). valueOf (accepted z)) (toZ-pos w64 (small (c .before)))
+    ∙ ap (λ (r : WriteAnswer). valueOf (natural (writeOutcome r))) (sym (n .n .given .1)))
 
 pub circle-median-write-spec : {M : Type 1} → statement M
 circle-median-write-spec =
     tie.close
     (tie.spec
-    shape-of-requires
-    write-requires
-    enum-known-f
-    refused-value-requires
-    enum-known-n
+    (λ c κs. search needs)
+    (λ c κs. search needs)
+    (λ c. search needs)
+    (λ c κs. search needs)
+    (λ c. search needs)
     cast-value-answer
-    value-answer-requires
-    same-length
+    (λ c κs. search needs)
+    (λ c. search needs)
     returns
-    same-length-2
+    (λ c. search needs)
     returns-2)

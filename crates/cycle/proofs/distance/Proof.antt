@@ -2,7 +2,7 @@
 use mathlib.Core.Path.{sym}
 use native.Mathlib.Omega.{arith}
 use borrow.Author.Needs.{needs}
-use Rattle.cycle.specs.Calls.{distanceCall, pairRules}
+use Rattle.cycle.specs.Calls.{distanceDue, pairRules}
 use Rattle.cycle.proofs.Accepted.{pair-clear}
 use Rattle.refusal.specs.Outcome.{Clear}
 use Rattle.refusal.proofs.Outcome.{passed-clear, clear-accepted, refused-alone}
@@ -14,32 +14,20 @@ clear : (c : tie.After-enum-told) → let a = c .before .before .before .args in
 clear c = let a = c .before .before .before .args in passed-clear (pairRules (a .cycle) (a .a) (a .b)) (c .before .before .pair-verdict .ensures)
     (c .enum-told .given .1)
 
-pair-verdict-requires : tie.Need-pair-verdict-requires
-pair-verdict-requires c κs = search needs
-
-enum-known-f : tie.Need-enum-known-f
-enum-known-f c = search needs
-
-enum-told : tie.Need-enum-told
-enum-told c = search needs
-
 cast-apart : tie.Need-cast-apart
 cast-apart c =
     let a = c .before .before .before .args in
     let k = clear c in
     omega (arith, pair-clear (a .cycle) (a .a) (a .b) k)
 
-apart-requires : tie.Need-apart-requires
-apart-requires c κs = search needs
-
 returns : tie.Need-returns
-unfolding distanceCall
+unfolding distanceDue
 returns c =
     let a = c .before .before .before .before .args in
     sym (refused-alone (pairRules (a .cycle) (a .a) (a .b)) (c .before .before .before .pair-verdict .ensures) _ (c .before .f .given .1))
 
 returns-2 : tie.Need-returns-2
-unfolding distanceCall
+unfolding distanceDue
 returns-2 c =
     let a = c .before .before .before .before .args in
     let k = clear (c .before) in
@@ -49,10 +37,10 @@ pub distance-spec : {M : Type 1} → statement M
 distance-spec =
     tie.close
     (tie.spec
-    pair-verdict-requires
-    enum-known-f
-    enum-told
+    (λ c κs. search needs)
+    (λ c. search needs)
+    (λ c. search needs)
     cast-apart
-    apart-requires
+    (λ c κs. search needs)
     returns
     returns-2)

@@ -3,8 +3,8 @@ use mathlib.Core.Path.{sym}
 use native.Mathlib.Omega.{arith}
 use borrow.Author.Needs.{needs}
 use Rattle.cycle.proofs.SignedLaws.{kept}
-use Rattle.cycle.proofs.Accepted.{row-clear}
-use Rattle.cycle.specs.Calls.{rowRules, driftCall}
+use Rattle.cycle.proofs.Accepted.{drift-clear}
+use Rattle.cycle.specs.Calls.{rowRules, driftDue}
 use Rattle.refusal.specs.Outcome.{Clear}
 use Rattle.refusal.proofs.Outcome.{passed-clear, clear-accepted, refused-alone}
 use Rattle.cycle.proofs.drift.Statement.{statement}
@@ -16,29 +16,20 @@ clear c =
     let a = c .before .before .before .before .args in
     passed-clear (rowRules (a .cycle) (a .row .now)) (c .before .before .row-verdict .ensures) (c .enum-told .given .1)
 
-row-verdict-requires : tie.Need-row-verdict-requires
-row-verdict-requires c κs = search needs
-
-enum-known-f : tie.Need-enum-known-f
-enum-known-f c = search needs
-
-enum-told : tie.Need-enum-told
-enum-told c = search needs
-
 drift-of-requires : tie.Need-drift-of-requires
 drift-of-requires c κs =
     let a = c .before .before .before .before .args in
     let k = clear c in
-    omega (arith, row-clear (a .cycle) (a .row .now) k)
+    omega (arith, drift-clear (a .cycle) (a .row .now) k)
 
 returns : tie.Need-returns
-unfolding driftCall
+unfolding driftDue
 returns c =
     let a = c .before .before .before .before .before .args in
     sym (refused-alone (rowRules (a .cycle) (a .row .now)) (c .before .before .before .row-verdict .ensures) _ (c .before .f .given .1))
 
 returns-2 : tie.Need-returns-2
-unfolding driftCall
+unfolding driftDue
 returns-2 c =
     let a = c .before .before .before .before .before .args in
     let k = clear (c .before) in
@@ -47,4 +38,4 @@ returns-2 c =
 pub drift-spec : {M : Type 1} → statement M
 drift-spec =
     tie.close
-    (tie.spec row-verdict-requires enum-known-f enum-told drift-of-requires returns returns-2)
+    (tie.spec (λ c κs. search needs) (λ c. search needs) (λ c. search needs) drift-of-requires returns returns-2)

@@ -4,7 +4,7 @@ use native.Mathlib.Omega.{arith}
 use borrow.Author.Needs.{needs}
 use Rattle.cycle.proofs.SignedLaws.{kept}
 use Rattle.cycle.proofs.Accepted.{pair-clear}
-use Rattle.cycle.specs.Calls.{pairRules, stepCall}
+use Rattle.cycle.specs.Calls.{pairRules, stepDue}
 use Rattle.refusal.specs.Outcome.{Clear}
 use Rattle.refusal.proofs.Outcome.{passed-clear, clear-accepted, refused-alone}
 use Rattle.cycle.proofs.step.Statement.{statement}
@@ -15,15 +15,6 @@ clear : (c : tie.After-enum-told) → let a = c .before .before .before .args in
 clear c = let a = c .before .before .before .args in passed-clear (pairRules (a .cycle) (a .a) (a .b)) (c .before .before .pair-verdict .ensures)
     (c .enum-told .given .1)
 
-pair-verdict-requires : tie.Need-pair-verdict-requires
-pair-verdict-requires c κs = search needs
-
-enum-known-f : tie.Need-enum-known-f
-enum-known-f c = search needs
-
-enum-told : tie.Need-enum-told
-enum-told c = search needs
-
 signed-step-requires : tie.Need-signed-step-requires
 signed-step-requires c κs =
     let a = c .before .before .before .args in
@@ -31,13 +22,13 @@ signed-step-requires c κs =
     omega (arith, pair-clear (a .cycle) (a .a) (a .b) k)
 
 returns : tie.Need-returns
-unfolding stepCall
+unfolding stepDue
 returns c =
     let a = c .before .before .before .before .args in
     sym (refused-alone (pairRules (a .cycle) (a .a) (a .b)) (c .before .before .before .pair-verdict .ensures) _ (c .before .f .given .1))
 
 returns-2 : tie.Need-returns-2
-unfolding stepCall
+unfolding stepDue
 returns-2 c =
     let a = c .before .before .before .before .args in
     let k = clear (c .before) in
@@ -46,4 +37,4 @@ returns-2 c =
 pub step-spec : {M : Type 1} → statement M
 step-spec =
     tie.close
-    (tie.spec pair-verdict-requires enum-known-f enum-told signed-step-requires returns returns-2)
+    (tie.spec (λ c κs. search needs) (λ c. search needs) (λ c. search needs) signed-step-requires returns returns-2)

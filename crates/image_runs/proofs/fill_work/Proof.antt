@@ -8,37 +8,13 @@ use Rattle.image_runs.proofs.fill_work.Statement.{statement}
 use Rattle.image_runs.proofs.fill_work.Tie as tie
 
 abbrev Inv-loop : tie.InvT-loop
-Inv-loop work₀ call i₀ work i = (i ≤ length work₀) × (length work ≡ length work₀)
+Inv-loop memory work₀ i₀ work i = (i ≤ length work₀) × (length work ≡ length work₀)
 
 abbrev μ-loop : tie.MeasureT-loop
-μ-loop work₀ call i₀ work i = length work₀ - i
-
-loop-holds : tie.Need-loop-holds Inv-loop μ-loop
-loop-holds c = search needs
-
-work-garbage-requires : tie.Need-work-garbage-requires Inv-loop μ-loop
-work-garbage-requires c κs = search needs
-
-mul-work : tie.Need-mul-work Inv-loop μ-loop
-mul-work c = search needs
-
-slice-write-work : tie.Need-slice-write-work Inv-loop μ-loop
-slice-write-work c = search needs
-
-add-i : tie.Need-add-i Inv-loop μ-loop
-add-i c = search needs
-
-loop-less : tie.Need-loop-less Inv-loop μ-loop
-loop-less c = search needs
+μ-loop memory work₀ i₀ work i = length work₀ - i
 
 loop-again : tie.Need-loop-again Inv-loop μ-loop
 loop-again c = (search needs, simp length-set (omega arith))
-
-same-length : tie.Need-same-length Inv-loop μ-loop
-same-length c = search needs
-
-returns : tie.Need-returns Inv-loop μ-loop
-returns c = search needs
 
 pub fill-work-spec : {M : Type 1} → statement M
 fill-work-spec =
@@ -46,12 +22,12 @@ fill-work-spec =
     (tie.spec
     Inv-loop
     μ-loop
-    loop-holds
-    work-garbage-requires
-    mul-work
-    slice-write-work
-    add-i
-    loop-less
+    (λ c. search needs)
+    (λ c κs. search needs)
+    (λ c. search needs)
+    (λ c. search needs)
+    (λ c. search needs)
+    (λ c. search needs)
     loop-again
-    same-length
-    returns)
+    (λ c. search needs)
+    (λ c. search needs))

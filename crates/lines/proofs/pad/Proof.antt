@@ -1,4 +1,5 @@
--- `lines::pad` meets its contract. Assumes nothing.
+-- `lines::pad` meets its contract: the row that is read lies within the image, so that each of the three copies has room, and the copies
+-- together are the padded row. Assumes nothing.
 use Prim.Native.Nat.{ℕ, _+_, _*_, _≤_}
 use mathlib.Core.Path.{ap}
 use native.Mathlib.Omega.{arith}
@@ -6,16 +7,18 @@ use borrow.Author.Needs.{needs}
 use lib.ListN.{length}
 use Rattle.refusal.specs.Limits.{longestCycle, mostRows, mostColumns}
 use Rattle.shape.specs.Rules.{reach}
-use Rattle.shape.proofs.Accepted.{Accepted, shape-clear, area-fits}
+use Rattle.shape.proofs.Accepted.{Accepted, shape-clear, row-room}
 use Rattle.window.proofs.Mirror.{mirror-below}
-use Rattle.lists.proofs.Parts.{part-end}
 use Rattle.lines.proofs.Padding.{line-made}
 use Rattle.lines.proofs.pad.Statement.{statement}
 use Rattle.lines.proofs.pad.Tie as tie
 
 -- back to places that the answers go by
+abbrev begin : tie.After-struct-known4 → tie.Start
+begin c = c .before .before .before .before .before .before
+
 abbrev start : tie.After-mirrored → tie.Start
-start c = c .before .before .before .before .before .before .before
+start c = begin (c .before)
 
 abbrev mirrored : tie.After-copy-back → tie.After-mirrored
 mirrored c = c .before .before
@@ -36,12 +39,11 @@ inside : (c : tie.After-mirrored) → let a = start c .args in
 inside c =
     let s = start c in
     let row = mirror-below (s .args .shape .rows) (reach (s .args .shape .«mask_rows»)) (s .args .position) (sizes s .rows-reach) (s .pre .1) in
-    let below = part-end (c .mirrored .result) (s .args .shape .rows) (s .args .shape .columns) (omega (arith, c .mirrored .ensures, row)) in
-    (omega (arith, below, s .pre .0 .size), omega (arith, below, area-fits (sizes s)))
+    row-room (sizes s) (c .mirrored .result) (length (s .args .image .now)) (omega (arith, c .mirrored .ensures, row)) (omega (arith, s .pre .0 .size))
 
 mirrored-requires : tie.Need-mirrored-requires
 mirrored-requires c κs =
-    let s = c .before .before .before .before .before .before in
+    let s = begin c in
     (omega (arith, sizes s .rows-fit), sizes s .rows-reach, s .pre .1)
 
 mul-row : tie.Need-mul-row

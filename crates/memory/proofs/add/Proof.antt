@@ -1,75 +1,35 @@
 -- `memory::add` meets its contract. Assumes nothing.
-use Prim.Native.Nat.{ℕ, _+_, _-_, _≤_}
-use mathlib.Core.Path.{_≡_, ap, _∙_}
+use Prim.Native.Nat.{_+_, _-_, _≤_}
 use native.Mathlib.Omega.{arith}
 use borrow.Author.Needs.{needs}
 use lib.ListN.{getD}
 use Rattle.lists.proofs.Difference.{adjusted-added}
-use Rattle.memory.proofs.Memory.{changed-start, changed-turn}
+use Rattle.memory.proofs.Memory.{changed-start, changed-adjusted, changed-done}
 use Rattle.memory.specs.Parts.{added}
 use Rattle.memory.specs.Memory.{Changed}
-use Rattle.lists.specs.Difference.{adjusted}
 use Rattle.memory.proofs.add.Statement.{statement}
 use Rattle.memory.proofs.add.Tie as tie
 
 abbrev Inv-loop : tie.InvT-loop
-Inv-loop work₀ base table come n q₀ work q = (q ≤ n) × Changed work₀ work base q (added work₀ base table come)
+Inv-loop work₀ base table entering n q₀ work q = (q ≤ n) × Changed work₀ work base q (added work₀ base table entering)
 
 abbrev μ-loop : tie.MeasureT-loop
-μ-loop work₀ base table come n q₀ work q = n - q
+μ-loop work₀ base table entering n q₀ work q = n - q
 
 loop-holds : tie.Need-loop-holds Inv-loop μ-loop
 loop-holds c = (search needs, changed-start)
 
-add-wrapping-add-u32 : tie.Need-add-wrapping-add-u32 Inv-loop μ-loop
-add-wrapping-add-u32 c = search needs
-
-mul-wrapping-add-u32 : tie.Need-mul-wrapping-add-u32 Inv-loop μ-loop
-mul-wrapping-add-u32 c = search needs
-
-slice-read-wrapping-add-u32 : tie.Need-slice-read-wrapping-add-u32 Inv-loop μ-loop
-slice-read-wrapping-add-u32 c = search needs
-
-add-wrapping-add-u32-2 : tie.Need-add-wrapping-add-u32-2 Inv-loop μ-loop
-add-wrapping-add-u32-2 c = search needs
-
-mul-wrapping-add-u32-2 : tie.Need-mul-wrapping-add-u32-2 Inv-loop μ-loop
-mul-wrapping-add-u32-2 c = search needs
-
-shared-slice-read-wrapping-add-u32 : tie.Need-shared-slice-read-wrapping-add-u32 Inv-loop μ-loop
-shared-slice-read-wrapping-add-u32 c = search needs
-
-wrapping-add-u32-requires : tie.Need-wrapping-add-u32-requires Inv-loop μ-loop
-wrapping-add-u32-requires c κs = search needs
-
-add-work : tie.Need-add-work Inv-loop μ-loop
-add-work c = search needs
-
-mul-work : tie.Need-mul-work Inv-loop μ-loop
-mul-work c = search needs
-
-slice-write-work : tie.Need-slice-write-work Inv-loop μ-loop
-slice-write-work c = search needs
-
-add-q : tie.Need-add-q Inv-loop μ-loop
-add-q c = search needs
-
-loop-less : tie.Need-loop-less Inv-loop μ-loop
-loop-less c = search needs
-
 loop-again : tie.Need-loop-again Inv-loop μ-loop
 loop-again c =
-    let l = c .before .before .before .before .loop in
-    let a = c .before .before .before .before .before .before .before .args in
-    let old = l .inv .1 .after (a .base + l .q) (omega arith) in
-    let new = adjusted-added (getD (l .work) (a .base + l .q) 0) (getD (a .table .now) (a .come + l .q) 0) _ (c .wrapping-add-u32 .ensures) in
-    (omega arith, changed-turn (l .inv .1) (omega arith) (new ∙ ap (λ (d : ℕ). adjusted d (getD (a .table .now) (a .come + l .q) 0) 0) old))
-
-same-length : tie.Need-same-length Inv-loop μ-loop
-same-length c = search needs
+    let t = c .before .before .before .before in
+    let a = t .before .before .before .args in (
+      omega arith,
+      changed-adjusted (λ q. getD (a .table .now) (a .entering + q) 0) (λ q. 0) (t .loop .inv .1) (omega arith)
+          (adjusted-added _ _ _ (c .wrapping-add-u32 .ensures)),
+    )
 
 returns : tie.Need-returns Inv-loop μ-loop
-returns c = let e : c .before .loop .q ≡ c .before .before .before .before .args .n = omega arith in rw e at (c .before .loop .inv .1)
+returns c = changed-done (c .before .loop .inv .1) (omega arith)
 
 pub add-spec : {M : Type 1} → statement M
 add-spec =
@@ -78,18 +38,18 @@ add-spec =
     Inv-loop
     μ-loop
     loop-holds
-    add-wrapping-add-u32
-    mul-wrapping-add-u32
-    slice-read-wrapping-add-u32
-    add-wrapping-add-u32-2
-    mul-wrapping-add-u32-2
-    shared-slice-read-wrapping-add-u32
-    wrapping-add-u32-requires
-    add-work
-    mul-work
-    slice-write-work
-    add-q
-    loop-less
+    (λ c. search needs)
+    (λ c. search needs)
+    (λ c. search needs)
+    (λ c. search needs)
+    (λ c. search needs)
+    (λ c. search needs)
+    (λ c κs. search needs)
+    (λ c. search needs)
+    (λ c. search needs)
+    (λ c. search needs)
+    (λ c. search needs)
+    (λ c. search needs)
     loop-again
-    same-length
+    (λ c. search needs)
     returns)

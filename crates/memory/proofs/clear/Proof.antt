@@ -1,9 +1,9 @@
 -- `memory::clear` meets its contract. Assumes nothing.
 use Prim.Native.Nat.{_-_, _≤_}
-use mathlib.Core.Path.{refl, _≡_}
+use mathlib.Core.Path.{refl}
 use native.Mathlib.Omega.{arith}
 use borrow.Author.Needs.{needs}
-use Rattle.memory.proofs.Memory.{changed-start, changed-turn}
+use Rattle.memory.proofs.Memory.{changed-start, changed-turn, changed-done}
 use Rattle.memory.specs.Parts.{zeros}
 use Rattle.memory.specs.Memory.{Changed}
 use Rattle.memory.proofs.clear.Statement.{statement}
@@ -18,29 +18,11 @@ abbrev μ-loop : tie.MeasureT-loop
 loop-holds : tie.Need-loop-holds Inv-loop μ-loop
 loop-holds c = (search needs, changed-start)
 
-add-work : tie.Need-add-work Inv-loop μ-loop
-add-work c = search needs
-
-mul-work : tie.Need-mul-work Inv-loop μ-loop
-mul-work c = search needs
-
-slice-write-work : tie.Need-slice-write-work Inv-loop μ-loop
-slice-write-work c = search needs
-
-add-q : tie.Need-add-q Inv-loop μ-loop
-add-q c = search needs
-
-loop-less : tie.Need-loop-less Inv-loop μ-loop
-loop-less c = search needs
-
 loop-again : tie.Need-loop-again Inv-loop μ-loop
 loop-again c = (omega arith, changed-turn (c .before .loop .inv .1) (omega arith) refl)
 
-same-length : tie.Need-same-length Inv-loop μ-loop
-same-length c = search needs
-
 returns : tie.Need-returns Inv-loop μ-loop
-returns c = let e : c .before .loop .q ≡ c .before .before .args .n = omega arith in rw e at (c .before .loop .inv .1)
+returns c = changed-done (c .before .loop .inv .1) (omega arith)
 
 pub clear-spec : {M : Type 1} → statement M
 clear-spec =
@@ -49,11 +31,11 @@ clear-spec =
     Inv-loop
     μ-loop
     loop-holds
-    add-work
-    mul-work
-    slice-write-work
-    add-q
-    loop-less
+    (λ c. search needs)
+    (λ c. search needs)
+    (λ c. search needs)
+    (λ c. search needs)
+    (λ c. search needs)
     loop-again
-    same-length
+    (λ c. search needs)
     returns)

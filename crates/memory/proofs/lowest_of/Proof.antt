@@ -18,26 +18,11 @@ abbrev μ-loop : tie.MeasureT-loop
 loop-holds : tie.Need-loop-holds Inv-loop μ-loop
 loop-holds c = (search needs, sym (lowest-none _))
 
-add-lower : tie.Need-add-lower Inv-loop μ-loop
-add-lower c = search needs
-
-mul-lower : tie.Need-mul-lower Inv-loop μ-loop
-mul-lower c = search needs
-
-shared-slice-read-lower : tie.Need-shared-slice-read-lower Inv-loop μ-loop
-shared-slice-read-lower c = search needs
-
 lower-requires : tie.Need-lower-requires Inv-loop μ-loop
 lower-requires c κs =
     let l = c .before .before .loop in
     let s = c .before .before .before .before in
     (s .pre .1 (l .q) (omega arith), omega (arith, l .inv .1, lowest-signed (copied (s .args .work .now) (s .args .base)) (l .q)))
-
-add-q : tie.Need-add-q Inv-loop μ-loop
-add-q c = search needs
-
-loop-less : tie.Need-loop-less Inv-loop μ-loop
-loop-less c = search needs
 
 loop-again : tie.Need-loop-again Inv-loop μ-loop
 loop-again c =
@@ -55,11 +40,11 @@ lowest-of-spec =
     Inv-loop
     μ-loop
     loop-holds
-    add-lower
-    mul-lower
-    shared-slice-read-lower
+    (λ c. search needs)
+    (λ c. search needs)
+    (λ c. search needs)
     lower-requires
-    add-q
-    loop-less
+    (λ c. search needs)
+    (λ c. search needs)
     loop-again
     returns)

@@ -10,10 +10,10 @@ use Rattle.memory.proofs.put.Statement.{statement}
 use Rattle.memory.proofs.put.Tie as tie
 
 abbrev Inv-loop : tie.InvT-loop
-Inv-loop work₀ base table come n q₀ work q = (q ≤ n) × Changed work₀ work base q (copied table come)
+Inv-loop work₀ base table start n q₀ work q = (q ≤ n) × Changed work₀ work base q (copied table start)
 
 abbrev μ-loop : tie.MeasureT-loop
-μ-loop work₀ base table come n q₀ work q = n - q
+μ-loop work₀ base table start n q₀ work q = n - q
 
 loop-holds : tie.Need-loop-holds Inv-loop μ-loop
 loop-holds c = (search needs, changed-start)

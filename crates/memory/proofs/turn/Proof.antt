@@ -23,9 +23,12 @@ Inv-loop work₀ base change table in1 in2 out1 out2 n least₀ q₀ work least 
 abbrev μ-loop : tie.MeasureT-loop
 μ-loop work₀ base change table in1 in2 out1 out2 n least₀ q₀ work least q = n - q
 
--- the tick at hand, and where the call began
+-- the tick at hand, from where the table is read and from the new difference, and where the call began
+abbrev at-read : tie.After-shared-slice-known5 Inv-loop μ-loop → tie.At-loop Inv-loop μ-loop
+at-read c = c .before .before .before .before .before .before .before
+
 abbrev at-tick : tie.After-wrapping-sub-u32 Inv-loop μ-loop → tie.At-loop Inv-loop μ-loop
-at-tick c = c .before .before .before .before .before .before .before .before
+at-tick c = at-read (c .before)
 
 abbrev start : tie.At-loop Inv-loop μ-loop → tie.Start Inv-loop μ-loop
 start c = c .before .before .before
@@ -51,10 +54,10 @@ summed-here : (c : tie.After-wrapping-add-u322 Inv-loop μ-loop) → let l = at-
 summed-here c =
     let l = at-tick (subtracted c) .loop in
     let a = start (at-tick (subtracted c)) .args in
-    let z = subtracted c .wrapping-sub-u32 .result in
-    let old : getD (set (l .work) (a .change + l .q) z) (a .base + l .q) 0 ≡ getD (a .work .now) (a .base + l .q) 0 =
-    getD-set-other (l .work) (a .change + l .q) (a .base + l .q) z 0 (omega arith) ∙ l .inv .1 .between (a .base + l .q) (omega arith) (omega arith) in
-    c .wrapping-add-u322 .ensures ∙ ap (λ (d : ℕ). (d + z) % 2 ^ 32) old
+    let new = subtracted c .wrapping-sub-u32 .result in
+    let old : getD (set (l .work) (a .change + l .q) new) (a .base + l .q) 0 ≡ getD (a .work .now) (a .base + l .q) 0 =
+    getD-set-other (l .work) (a .change + l .q) (a .base + l .q) new 0 (omega arith) ∙ l .inv .1 .between (a .base + l .q) (omega arith) (omega arith) in
+    c .wrapping-add-u322 .ensures ∙ ap (λ (d : ℕ). (d + new) % 2 ^ 32) old
     ∙ ap (λ (d : ℕ). (getD (a .work .now) (a .base + l .q) 0 + d) % 2 ^ 32) (turned-here (subtracted c))
 
 loop-holds : tie.Need-loop-holds Inv-loop μ-loop
@@ -68,7 +71,7 @@ add-wrapping-add-u32-4 c =
 
 add-wrapping-sub-u32-3 : tie.Need-add-wrapping-sub-u32-3 Inv-loop μ-loop
 add-wrapping-sub-u32-3 c =
-    let l = c .before .before .before .before .before .before .before in
+    let l = at-read c in
     let s = start l in
     omega (arith, s .pre .1 .1 .0 (s .args .out1 + l .loop .q), s .pre .1 .1 .0 (s .args .out2 + l .loop .q))
 

@@ -15,7 +15,7 @@ abbrev ranked : tie.After-weigh-two-arg3 → tie.After-ranks
 ranked c = c .before .before .before .before .before
 
 sizes : (s : tie.Start) → Accepted longestCycle (s .args .shape)
-sizes s = shape-clear longestCycle (s .args .shape) (s .pre .0 .0)
+sizes s = shape-clear longestCycle (s .args .shape) (s .pre .tests)
 
 cast-ranks : tie.Need-cast-ranks
 cast-ranks c = omega (arith, sizes (start c) .cycle-fits)
@@ -24,10 +24,10 @@ ranks-requires : tie.Need-ranks-requires
 ranks-requires c κs =
     let s = start (c .before) in
     let k = sizes s in
-    let l = s .pre .1 .0 in (
-      omega (arith, k .columns-fit, l .1),
-      omega (arith, k .columns-fit, k .mask-columns-fit, s .pre .0 .1, l .0),
-      omega (arith, k .columns-fit, l .2),
+    let p = s .pre in (
+      omega (arith, k .columns-fit, p .centres-line),
+      omega (arith, k .columns-fit, k .mask-columns-fit, p .inside, p .own-line),
+      omega (arith, k .columns-fit, p .rank-line),
     )
 
 weigh-two-requires : tie.Need-weigh-two-requires
@@ -35,14 +35,14 @@ weigh-two-requires c κs =
     let r = ranked c in
     let s = start (r .before .before) in
     let k = sizes s in
-    let l = s .pre .1 .0 in (
+    let p = s .pre in (
       (
-        s .pre .0 .2,
-        omega (arith, k .columns-fit, l .2, r .ranks .ensures .len),
-        omega (arith, k .columns-fit, l .3),
-        omega (arith, k .columns-fit, l .4),
+        p .room,
+        omega (arith, k .columns-fit, p .rank-line, r .ranks .ensures .len),
+        omega (arith, k .columns-fit, p .least-line),
+        omega (arith, k .columns-fit, p .nearest-line),
       ),
-      s .pre .1 .1,
+      (p .sums-signed, p .least-signed, p .nearest-signed),
     )
 
 returns : tie.Need-returns

@@ -1,292 +1,167 @@
--- `reading_turns::enter` meets its contract: plane after plane has the sums of row i by the sweeps, and is weighed. Assumes nothing.
-use Prim.Native.Nat.{ℕ, _+_, _-_, _*_, _≤_, _<_}
-use mathlib.Core.Path.{_≡_, sym, _∙_}
-use mathlib.Core.List.{List}
+-- `reading_turns::enter` meets its contract: after the sweep ahead plane 0 is due and weighed, and each turn of the sweep behind does the same
+-- for the plane after it. Assumes nothing.
+use Prim.Native.Nat.{_+_, _-_}
+use mathlib.Core.Path.{refl, sym, _∙_}
 use native.Mathlib.Omega.{arith}
-use native.Mathlib.Nat.{add-mul}
 use borrow.Author.Needs.{needs}
-use lib.ListN.{length}
-use Rattle.refusal.specs.Limits.{longestCycle}
-use Rattle.shape.specs.Rules.{reach}
-use Rattle.shape.proofs.Accepted.{Accepted}
-use Rattle.memory.specs.Memory.{Outside, Changed}
-use Rattle.memory.specs.Parts.{zeros}
-use Rattle.memory.proofs.Memory.{outside-none, outside-more, outside-within}
-use Rattle.lines.specs.Lines.{IsLine, Line}
-use Rattle.reading_planes.specs.Planes.{ofRows, none, Fronts, planes}
-use Rattle.reading_planes.specs.Sums.{place}
-use Rattle.reading_planes.proofs.Sums.{sizes, row-inside, sum-built}
-use Rattle.reading_planes.proofs.Ring.{place-room, outside-at}
-use Rattle.reading_choice.specs.Weighed.{RowWeighed}
-use Rattle.reading_choice.proofs.RowLaws.{row-last}
-use Rattle.reading_turns.specs.Scratch.{Scratch}
-use Rattle.reading_turns.proofs.Sweeping.{Sweeping, sweeping-first, sweeping-more, sweeping-last, plane-within, weigh-signed, weigh-done}
+use Rattle.lines.specs.Lines.{IsLine}
+use Rattle.reading_planes.specs.Planes.{ofRows, none}
+use Rattle.reading_planes.proofs.Sums.{line-room}
+use Rattle.reading_turns.proofs.Turn.{scratch-kept, position-inside, position-fits, lay, laid-sizes, laid-room}
+use Rattle.reading_turns.proofs.Turn.{Turn, turn-built, weigh-asked, turn-weighed, next-room, turn-next, turn-last}
 use Rattle.reading_turns.proofs.enter.Statement.{statement}
 use Rattle.reading_turns.proofs.enter.Tie as tie
 
 abbrev Inv-loop : tie.InvT-loop
-Inv-loop shape image work₀ i k own last row₀ other₀ centres change₀ step₀ least₀ nearest₀ columns mask base l₀ plane₀ work row other change step least nearest l plane =
-    (l < shape .«mask_columns») × (plane ≡ base + l * shape .columns)
-    × Sweeping shape image i (i + k) base (ofRows shape image i own) none work change l × IsLine row × IsLine other
-    × Outside work₀ work base (planes shape) × RowWeighed shape image i k (l + 1) least nearest × Scratch change step least nearest
+Inv-loop shape image work₀ i k own last row₀ other₀ centres change₀ step₀ least₀ nearest₀ columns mask plane₀ l₀ work row other change step least nearest plane l =
+    Turn shape image own centres i k plane₀ (ofRows shape image i own) none work₀ work change step least nearest l (l + 1) plane
+    × IsLine row × IsLine other
 
 abbrev μ-loop : tie.MeasureT-loop
-μ-loop shape image work₀ i k own last row₀ other₀ centres change₀ step₀ least₀ nearest₀ columns mask base l₀ plane₀ work row other change step least nearest l plane =
+μ-loop shape image work₀ i k own last row₀ other₀ centres change₀ step₀ least₀ nearest₀ columns mask plane₀ l₀ work row other change step least nearest plane l =
     shape .«mask_columns» - l
 
 -- back to places that the answers go by
-abbrev start : tie.After-pad Inv-loop μ-loop → tie.Start Inv-loop μ-loop
-start c = c .before .before .before .before .before .before .before .before .before .before .before .before .before .before .before
+abbrev start : tie.After-struct-known2 Inv-loop μ-loop → tie.Start Inv-loop μ-loop
+start c = c .before .before .before .before .before .before .before .before .before .before .before .before .before
 
-abbrev padded : tie.After-build-ahead Inv-loop μ-loop → tie.After-pad Inv-loop μ-loop
-padded c = c .before .before .before .before .before .before .before .before .before .before
+abbrev before-line : tie.After-lay-line Inv-loop μ-loop → tie.Start Inv-loop μ-loop
+before-line c = start (c .before .before)
 
-abbrev placed : tie.After-build-ahead Inv-loop μ-loop → tie.After-place-of Inv-loop μ-loop
-placed c = c .before .before .before .before .before .before .before
+abbrev line : tie.After-build-ahead-arg6 Inv-loop μ-loop → tie.After-lay-line Inv-loop μ-loop
+line c = c .before .before .before .before .before .before .before .before
 
-abbrev built : tie.After-clear Inv-loop μ-loop → tie.After-build-ahead Inv-loop μ-loop
-built c = c .before .before .before .before .before .before .before .before .before .before .before .before
+abbrev ahead : tie.After-clear-arg Inv-loop μ-loop → tie.After-build-ahead Inv-loop μ-loop
+ahead c = c .before .before .before .before .before .before .before .before .before .before .before
 
-abbrev cleared : tie.After-weigh Inv-loop μ-loop → tie.After-clear Inv-loop μ-loop
-cleared c = c .before .before .before .before .before .before .before .before
+abbrev cleared : tie.After-weigh-arg5 Inv-loop μ-loop → tie.After-clear Inv-loop μ-loop
+cleared c = c .before .before .before .before .before .before .before
 
-abbrev weighed : tie.At-loop Inv-loop μ-loop → tie.After-weigh Inv-loop μ-loop
-weighed c = c .before .before .before .before .before .before .before
+abbrev weighed : tie.After-slice-known18 Inv-loop μ-loop → tie.After-weigh Inv-loop μ-loop
+weighed c = c .before .before .before .before .before .before
 
-abbrev turn : tie.After-build-on Inv-loop μ-loop → tie.In-loop Inv-loop μ-loop
-turn c = c .before .before .before .before .before .before .before
-
-abbrev moved : tie.After-weigh2 Inv-loop μ-loop → tie.After-build-on Inv-loop μ-loop
-moved c = c .before .before .before .before .before .before .before .before .before .before .before .before .before .before .before .before
+abbrev swept : tie.At-loop Inv-loop μ-loop → tie.After-build-ahead Inv-loop μ-loop
+swept c = ahead (cleared (weighed (c .before) .before) .before)
 
 abbrev first : tie.At-loop Inv-loop μ-loop → tie.Start Inv-loop μ-loop
-first c = start (padded (built (cleared (weighed c))))
+first c = before-line (line (swept c .before))
 
-accepted : (s : tie.Start Inv-loop μ-loop) → Accepted longestCycle (s .args .shape)
-accepted s = sizes (s .args .shape) (s .pre .0 .0 .ready .shape)
+abbrev turn : tie.After-build-on-arg6 Inv-loop μ-loop → tie.In-loop Inv-loop μ-loop
+turn c = c .before .before .before .before .before .before
 
--- where the planes start: there, and within the work memory
-room : (c : tie.After-place-of Inv-loop μ-loop) → let s = start (c .before .before .before) in
-    (c .place-of .result ≡ place (s .args .shape) (s .args .i + s .args .k)) × (c .place-of .result + planes (s .args .shape) ≤ length (s .args .work .now))
-room c =
-    let s = start (c .before .before .before) in
-    let e = c .place-of .ensures in
-    (e, omega (arith, e, place-room (s .args .shape) (s .args .i + s .args .k) (omega (arith, accepted s .mask-rows-odd)), s .pre .0 .0 .room))
+abbrev behind : tie.After-slice-known23 Inv-loop μ-loop → tie.After-build-on Inv-loop μ-loop
+behind c = c .before .before .before .before .before .before .before .before .before .before
 
--- the mask row is a row of the padded image
-inside : (s : tie.Start Inv-loop μ-loop) → s .args .i + s .args .k < s .args .shape .rows + 2 * reach (s .args .shape .«mask_rows»)
-inside s = row-inside (s .args .shape) (s .pre .0 .0 .ready .shape) (s .args .i) (s .args .k) (s .pre .0 .1) (s .pre .0 .2)
+abbrev moved : tie.After-weigh-arg10 Inv-loop μ-loop → tie.After-build-on Inv-loop μ-loop
+moved c = behind (c .before .before .before .before .before)
 
-add-pad : tie.Need-add-pad Inv-loop μ-loop
-add-pad c =
-    let s = c .before .before .before .before .before .before .before .before .before .before .before .before .before in
-    omega (arith, inside s, accepted s .rows-fit, accepted s .mask-rows-fit)
+abbrev weighed-next : tie.After-slice-known26 Inv-loop μ-loop → tie.After-weigh2 Inv-loop μ-loop
+weighed-next c = c .before .before .before .before .before .before
 
-pad-requires : tie.Need-pad-requires Inv-loop μ-loop
-pad-requires c κs =
-    let s = c .before .before .before .before .before .before .before .before .before .before .before .before .before .before in
-    (s .pre .0 .0 .ready, inside s, s .pre .1 .0 .0)
+add-lay-line : tie.Need-add-lay-line Inv-loop μ-loop
+add-lay-line c = let s = start c in omega (arith, position-fits (s .pre .0 .0) (s .pre .0 .1) (s .pre .0 .2))
 
-add-place-of : tie.Need-add-place-of Inv-loop μ-loop
-add-place-of c = let s = start (c .before .before) in omega (arith, inside s, accepted s .rows-fit, accepted s .mask-rows-fit)
-
-place-of-requires : tie.Need-place-of-requires Inv-loop μ-loop
-place-of-requires c κs = start (c .before .before) .pre .0 .0 .ready .shape
+lay-line-requires : tie.Need-lay-line-requires Inv-loop μ-loop
+lay-line-requires c κs =
+    let s = start (c .before) in
+    (s .pre .0 .0 .ready, position-inside (s .pre .0 .0) (s .pre .0 .1) (s .pre .0 .2), s .pre .1 .0 .0)
 
 build-ahead-requires : tie.Need-build-ahead-requires Inv-loop μ-loop
 build-ahead-requires c κs =
-    let p = c .before .before .before .before .before .before in
-    let d = p .before .before .before in
-    let s = start d in
+    let o = line c in
+    let s = before-line o in
+    let laid = lay (s .pre .0 .0) (s .pre .0 .1) (s .pre .0 .2) (s .pre .1 .1 .0 .0) (o .lay-line .ensures) in
     let scratch = s .pre .1 .1 .0 .1 in (
-      (s .pre .0 .0 .ready, s .pre .0 .1, room p .1),
-      ((d .pad .ensures .len, s .pre .1 .0 .1), (s .pre .1 .0 .2, s .pre .1 .0 .3, scratch .change-line, scratch .step-line)),
+      (s .pre .0 .0 .ready, s .pre .0 .1, laid-room laid),
+      ((laid .line .len, s .pre .1 .0 .1), (s .pre .1 .0 .2, s .pre .1 .0 .3, scratch .change-line, scratch .step-line)),
     )
 
 clear-requires : tie.Need-clear-requires Inv-loop μ-loop
 clear-requires c κs =
-    let d = c .before .before .before .before .before .before .before .before .before .before .before in
-    let s = start (padded d) in
-    omega (arith, accepted s .columns-fit, accepted s .mask-columns-fit, s .pre .1 .1 .0 .1 .change-line, d .build-ahead .kept .1 .1 .1 .1 .1 .1 .1 .1 .1 .0)
+    let d = ahead c in
+    let s = before-line (line (d .before)) in
+    let n = line-room (s .args .shape) (s .pre .0 .0 .ready .shape) in
+    omega (arith, n, s .pre .1 .1 .0 .1 .change-line, d .build-ahead .kept .1 .1 .1 .1 .1 .1 .1 .1 .1 .0)
 
--- once the sweep ahead is done, plane 0 has its sums
-swept : {own w z₀ z : List ℕ} (s : tie.Start Inv-loop μ-loop) → let a = s .args in let sh = a .shape in
-    (base : ℕ) → Line sh (a .image .now) (a .i + a .k) own → Fronts sh w base none (ofRows sh (a .image .now) (a .i) own) none 0
-    → Changed z₀ z 0 (sh .columns + sh .«mask_columns») zeros → Sweeping sh (a .image .now) (a .i) (a .i + a .k) base (ofRows sh (a .image .now) (a .i) own) none w z 0
-swept s base x f z =
-    sweeping-first none (omega (arith, accepted s .mask-columns-odd))
-    (λ m j h g. sum-built (s .pre .0 .0 .ready) (inside s) x m j h g (s .pre .0 .1)) f z
-
--- a plane ends within the work memory
-plane-room : {size : ℕ} (c : tie.After-build-ahead Inv-loop μ-loop) → let a = start (padded c) .args in
-    (l : ℕ) → l < a .shape .«mask_columns» → size ≡ length (a .work .now) → placed c .place-of .result + l * a .shape .columns + a .shape .columns ≤ size
-plane-room c l h e = omega (arith, e, room (placed c) .1, plane-within (start (padded c) .args .shape) l h)
+-- plane 0 is due once the sweep ahead is done
+due : (z : tie.After-clear Inv-loop μ-loop) → let d = ahead (z .before) in let o = line (d .before) in let a = before-line o .args in
+    let own = o .lay-line .last .1 .1 .1 .0 in let work = d .build-ahead .last .1 .1 .1 .0 in
+    Turn (a .shape) (a .image .now) own (a .centres .now) (a .i) (a .k) (o .lay-line .result) (ofRows (a .shape) (a .image .now) (a .i) own) none
+    work work (z .clear .last .0) (d .build-ahead .last .1 .1 .1 .1 .1 .1 .1 .1 .1 .1 .0) (a .least .now) (a .nearest .now) 0 0 (o .lay-line .result)
+due z =
+    let d = ahead (z .before) in
+    let o = line (d .before) in
+    let s = before-line o in
+    let laid = lay (s .pre .0 .0) (s .pre .0 .1) (s .pre .0 .2) (s .pre .1 .1 .0 .0) (o .lay-line .ensures) in
+    let lent = d .build-ahead .kept .1 .1 .1 .1 .1 .1 .1 .1 .1 in
+    turn-built laid (z .clear .ensures) (s .pre .1 .1 .1)
+    (scratch-kept (s .pre .1 .1 .0 .1) (z .clear .ensures .len ∙ lent .0) (lent .1 .0) refl refl)
+    (d .build-ahead .ensures .0) (d .build-ahead .ensures .1 .len)
 
 weigh-requires : tie.Need-weigh-requires Inv-loop μ-loop
-weigh-requires c κs =
-    let z = c .before .before .before .before .before .before .before in
-    let d = built z in
-    let p = padded d in
-    let s = start p in
-    let scratch = s .pre .1 .1 .0 .1 in
-    let some : 0 < s .args .shape .«mask_columns» = omega (arith, accepted s .mask-columns-odd) in
-    let w = swept s _ (p .pad .ensures) (d .build-ahead .ensures .0) (z .clear .ensures) in (
-      (s .pre .0 .0 .ready .shape, some, omega (arith, plane-room d 0 some (d .build-ahead .ensures .1 .len))),
-      (
-        (p .pad .ensures .len, s .pre .1 .1 .0 .0 .len, d .build-ahead .kept .1 .1 .1 .1 .1 .1 .1 .1 .1 .1 .0 ∙ scratch .step-line, scratch .least-line, scratch .nearest-line),
-        weigh-signed (s .pre .0 .0 .ready) (s .pre .0 .1) (s .pre .0 .2) some w (omega arith) (s .pre .1 .1 .1),
-      ),
-    )
+weigh-requires c κs = weigh-asked (due (cleared c))
 
 loop-holds : tie.Need-loop-holds Inv-loop μ-loop
 loop-holds c =
-    let y = c .before .before .before .before .before .before in
-    let z = cleared y in
-    let d = built z in
-    let p = padded d in
-    let s = start p in
-    let some : 0 < s .args .shape .«mask_columns» = omega (arith, accepted s .mask-columns-odd) in
-    let w = swept s _ (p .pad .ensures) (d .build-ahead .ensures .0) (z .clear .ensures) in
-    let scratch = s .pre .1 .1 .0 .1 in
-    let lent = d .build-ahead .kept .1 .1 .1 .1 .1 .1 .1 in (
-      some,
-      omega arith,
-      w,
-      lent .0 ∙ s .pre .1 .0 .2,
-      lent .1 .0 ∙ s .pre .1 .0 .3,
-      outside-none,
-      weigh-done (s .pre .0 .0 .ready) (s .pre .0 .1) (s .pre .0 .2) some w (omega arith) (s .pre .1 .1 .1) (p .pad .ensures) (s .pre .1 .1 .0 .0)
-          (y .weigh .ensures .0) (y .weigh .ensures .1),
-      record {
-        change-line = z .clear .ensures .len ∙ lent .1 .1 .0 ∙ scratch .change-line;
-        step-line = y .weigh .kept .1 .1 .1 .1 .1 .1 .0 ∙ lent .1 .1 .1 .0 ∙ scratch .step-line;
-        least-line = y .weigh .ensures .0 .len ∙ scratch .least-line;
-        nearest-line = y .weigh .ensures .1 .len ∙ scratch .nearest-line;
-      },
-    )
+    let y = weighed c in
+    let z = cleared (y .before) in
+    let rows = ahead (z .before) .build-ahead .kept .1 .1 .1 .1 .1 .1 .1 in
+    let s = before-line (line (ahead (z .before) .before)) in
+    let one = turn-weighed (due z) (y .weigh .ensures .0) (y .weigh .ensures .1) (y .weigh .kept .1 .1 .1 .1 .1 .1 .0) in
+    (one, rows .0 ∙ s .pre .1 .0 .2, rows .1 .0 ∙ s .pre .1 .0 .3)
 
 add-loop : tie.Need-add-loop Inv-loop μ-loop
-add-loop c = omega (arith, c .loop .inv .0, accepted (first c) .mask-columns-fit)
+add-loop c = omega (arith, c .loop .inv .0 .within, laid-sizes (c .loop .inv .0 .laid) .mask-columns-fit)
 
 add-plane : tie.Need-add-plane Inv-loop μ-loop
 add-plane c =
-    let d = built (cleared (weighed (c .before))) in
-    let l = c .before .loop in
-    omega (arith, l .inv .1, plane-room d (l .l) (l .inv .0) (l .inv .5 .len ∙ d .build-ahead .ensures .1 .len), start (padded d) .good .1 .1 .0 .0)
+    let inv = c .before .loop .inv .0 in
+    let len = inv .outside .len ∙ swept (c .before) .build-ahead .ensures .1 .len in
+    omega (arith, next-room inv (c .loop-test .taken), len, first (c .before) .good .1 .1 .0 .0)
 
 build-on-requires : tie.Need-build-on-requires Inv-loop μ-loop
 build-on-requires c κs =
-    let t = c .before .before .before .before .before .before in
-    let d = built (cleared (weighed (t .before))) in
-    let s = start (padded d) in
-    let l = t .before .loop in
-    let row = add-mul (l .l) 1 (s .args .shape .columns) in
-    let scratch = l .inv .7 in (
+    let t = turn c in
+    let s = first (t .before) in
+    let inv = t .before .loop .inv in (
+      (s .pre .0 .0 .ready, s .pre .0 .1, t .loop-test .taken, next-room (inv .0) (t .loop-test .taken)),
       (
-        s .pre .0 .0 .ready,
-        s .pre .0 .1,
-        t .loop-test .taken,
-        omega (arith, row, l .inv .1, plane-room d (l .l + 1) (t .loop-test .taken) (l .inv .5 .len ∙ d .build-ahead .ensures .1 .len)),
+        (inv .0 .laid .line .len, s .pre .1 .0 .1),
+        ((inv .1, inv .2, inv .0 .scratch .change-line, inv .0 .scratch .step-line), inv .0 .sweeping .behind),
       ),
-      ((padded d .pad .ensures .len, s .pre .1 .0 .1), ((l .inv .3, l .inv .4, scratch .change-line, scratch .step-line), l .inv .2 .behind)),
     )
 
 add-l : tie.Need-add-l Inv-loop μ-loop
-add-l c = let t = turn (c .before .before .before .before .before .before .before .before .before .before) in omega (arith, t .loop-test .taken, accepted (first (t .before)) .mask-columns-fit)
-
--- after a turn: the plane, and the changes
-turned : (c : tie.After-build-on Inv-loop μ-loop) → let l = turn c .before .loop in let a = first (turn c .before) .args in
-    l .plane + a .shape .columns ≡ placed (built (cleared (weighed (turn c .before)))) .place-of .result + (l .l + 1) * a .shape .columns
-turned c =
-    let l = turn c .before .loop in
-    omega (arith, l .inv .1, add-mul (l .l) 1 (first (turn c .before) .args .shape .columns))
+add-l c = let t = turn (behind c .before) in omega (arith, t .loop-test .taken, laid-sizes (t .before .loop .inv .0 .laid) .mask-columns-fit)
 
 weigh-requires-2 : tie.Need-weigh-requires-2 Inv-loop μ-loop
 weigh-requires-2 c κs =
-    let o = c .before .before .before .before .before .before .before .before .before .before .before .before .before .before .before in
-    let t = turn o in
-    let d = built (cleared (weighed (t .before))) in
-    let s = start (padded d) in
-    let l = t .before .loop in
-    let scratch = l .inv .7 in
-    let w = sweeping-more (l .inv .2) (t .loop-test .taken) (turned o) (o .build-on .ensures .1) (o .build-on .ensures .0) in (
-      (
-        s .pre .0 .0 .ready .shape,
-        t .loop-test .taken,
-        omega (arith, turned o, plane-room d (l .l + 1) (t .loop-test .taken) (o .build-on .ensures .1 .len ∙ l .inv .5 .len ∙ d .build-ahead .ensures .1 .len)),
-      ),
-      (
-        (padded d .pad .ensures .len, s .pre .1 .1 .0 .0 .len, o .build-on .kept .1 .1 .1 .1 .1 .1 .1 .1 .1 .1 .1 .0 ∙ scratch .step-line, scratch .least-line, scratch .nearest-line),
-        weigh-signed (s .pre .0 .0 .ready) (s .pre .0 .1) (s .pre .0 .2) (t .loop-test .taken) w (turned o) (l .inv .6),
-      ),
-    )
+    let o = moved c in
+    let t = turn (o .before) in
+    let lent = o .build-on .kept .1 .1 .1 .1 .1 .1 .1 .1 .1 .1 in
+    let step = o .build-on .last .1 .1 .1 .1 .1 .1 .1 .1 .1 .1 .1 .0 in
+    let inv = t .before .loop .inv in
+    weigh-asked (turn-next (inv .0) step (t .loop-test .taken) (o .build-on .ensures .1) (o .build-on .ensures .0) (lent .0) (lent .1 .0))
 
 loop-again : tie.Need-loop-again Inv-loop μ-loop
 loop-again c =
-    let y = c .before .before .before .before .before .before in
-    let o = moved y in
-    let t = turn o in
-    let d = built (cleared (weighed (t .before))) in
-    let s = start (padded d) in
-    let l = t .before .loop in
-    let scratch = l .inv .7 in
-    let w = sweeping-more (l .inv .2) (t .loop-test .taken) (turned o) (o .build-on .ensures .1) (o .build-on .ensures .0) in
-    let lent = o .build-on .kept .1 .1 .1 .1 .1 .1 .1 .1 in (
-      t .loop-test .taken,
-      turned o,
-      w,
-      lent .0 ∙ l .inv .3,
-      lent .1 .0 ∙ l .inv .4,
-      outside-within (l .inv .5) (o .build-on .ensures .1) (omega (arith, turned o)) (omega (arith, turned o, plane-within (s .args .shape) (l .l + 1) (t .loop-test .taken))),
-      weigh-done (s .pre .0 .0 .ready) (s .pre .0 .1) (s .pre .0 .2) (t .loop-test .taken) w (turned o) (l .inv .6) (padded d .pad .ensures) (s .pre .1 .1 .0 .0)
-          (y .weigh2 .ensures .0) (y .weigh2 .ensures .1),
-      record {
-        change-line = lent .1 .1 .0 ∙ scratch .change-line;
-        step-line = y .weigh2 .kept .1 .1 .1 .1 .1 .1 .0 ∙ lent .1 .1 .1 .0 ∙ scratch .step-line;
-        least-line = y .weigh2 .ensures .0 .len ∙ scratch .least-line;
-        nearest-line = y .weigh2 .ensures .1 .len ∙ scratch .nearest-line;
-      },
-    )
+    let y = weighed-next c in
+    let o = moved (y .before) in
+    let t = turn (o .before) in
+    let inv = t .before .loop .inv in
+    let rows = o .build-on .kept .1 .1 .1 .1 .1 .1 .1 .1 in
+    let lent = rows .1 .1 in
+    let step = o .build-on .last .1 .1 .1 .1 .1 .1 .1 .1 .1 .1 .1 .0 in
+    let due = turn-next (inv .0) step (t .loop-test .taken) (o .build-on .ensures .1) (o .build-on .ensures .0) (lent .0) (lent .1 .0) in
+    (turn-weighed due (y .weigh2 .ensures .0) (y .weigh2 .ensures .1) (y .weigh2 .kept .1 .1 .1 .1 .1 .1 .0), rows .0 ∙ inv .1, rows .1 .0 ∙ inv .2)
 
 loop-less : tie.Need-loop-less Inv-loop μ-loop
-loop-less c = let t = turn (moved (c .before .before .before .before .before .before)) in omega (arith, t .loop-test .taken)
-
-same-length : tie.Need-same-length Inv-loop μ-loop
-same-length c = let d = built (cleared (weighed (c .before))) in c .before .loop .inv .5 .len ∙ d .build-ahead .ensures .1 .len
-
-same-length-2 : tie.Need-same-length-2 Inv-loop μ-loop
-same-length-2 c =
-    let p = padded (built (cleared (weighed (c .before)))) in
-    p .pad .ensures .len ∙ sym (start p .pre .1 .0 .0)
-
-same-length-3 : tie.Need-same-length-3 Inv-loop μ-loop
-same-length-3 c = c .before .loop .inv .3 ∙ sym (first (c .before) .pre .1 .0 .2)
-
-same-length-4 : tie.Need-same-length-4 Inv-loop μ-loop
-same-length-4 c = c .before .loop .inv .4 ∙ sym (first (c .before) .pre .1 .0 .3)
-
-same-length-5 : tie.Need-same-length-5 Inv-loop μ-loop
-same-length-5 c = c .before .loop .inv .7 .change-line ∙ sym (first (c .before) .pre .1 .1 .0 .1 .change-line)
-
-same-length-6 : tie.Need-same-length-6 Inv-loop μ-loop
-same-length-6 c = c .before .loop .inv .7 .step-line ∙ sym (first (c .before) .pre .1 .1 .0 .1 .step-line)
-
-same-length-7 : tie.Need-same-length-7 Inv-loop μ-loop
-same-length-7 c = c .before .loop .inv .7 .least-line ∙ sym (first (c .before) .pre .1 .1 .0 .1 .least-line)
-
-same-length-8 : tie.Need-same-length-8 Inv-loop μ-loop
-same-length-8 c = c .before .loop .inv .7 .nearest-line ∙ sym (first (c .before) .pre .1 .1 .0 .1 .nearest-line)
+loop-less c = let t = turn (moved (weighed-next c .before) .before) in omega (arith, t .loop-test .taken)
 
 returns : tie.Need-returns Inv-loop μ-loop
 returns c =
-    let d = built (cleared (weighed (c .before))) in
-    let s = start (padded d) in
-    let l = c .before .loop in
-    let all : s .args .shape .«mask_columns» ≡ l .l + 1 = omega (arith, l .inv .0, c .loop-test .left) in
-    let e = room (placed d) .0 in (
-      (sweeping-last (l .inv .2) all e, outside-at e (outside-more (d .build-ahead .ensures .1) (l .inv .5))),
-      row-last (rw (sym all) at (l .inv .6)),
-    )
+    let inv = c .before .loop .inv .0 in
+    turn-last inv (omega (arith, inv .within, c .loop-test .left)) (swept (c .before) .build-ahead .ensures .1)
 
 pub enter-spec : {M : Type 1} → statement M
 enter-spec =
@@ -296,10 +171,8 @@ enter-spec =
     μ-loop
     (λ c. search needs)
     (λ c. search needs)
-    add-pad
-    pad-requires
-    add-place-of
-    place-of-requires
+    add-lay-line
+    lay-line-requires
     build-ahead-requires
     (λ c. search needs)
     clear-requires
@@ -312,12 +185,12 @@ enter-spec =
     weigh-requires-2
     loop-less
     loop-again
-    same-length
-    same-length-2
-    same-length-3
-    same-length-4
-    same-length-5
-    same-length-6
-    same-length-7
-    same-length-8
+    (λ c. c .before .loop .inv .0 .outside .len ∙ swept (c .before) .build-ahead .ensures .1 .len)
+    (λ c. c .before .loop .inv .0 .laid .line .len ∙ sym (first (c .before) .pre .1 .0 .0))
+    (λ c. c .before .loop .inv .1 ∙ sym (first (c .before) .pre .1 .0 .2))
+    (λ c. c .before .loop .inv .2 ∙ sym (first (c .before) .pre .1 .0 .3))
+    (λ c. c .before .loop .inv .0 .scratch .change-line ∙ sym (first (c .before) .pre .1 .1 .0 .1 .change-line))
+    (λ c. c .before .loop .inv .0 .scratch .step-line ∙ sym (first (c .before) .pre .1 .1 .0 .1 .step-line))
+    (λ c. c .before .loop .inv .0 .scratch .least-line ∙ sym (first (c .before) .pre .1 .1 .0 .1 .least-line))
+    (λ c. c .before .loop .inv .0 .scratch .nearest-line ∙ sym (first (c .before) .pre .1 .1 .0 .1 .nearest-line))
     returns)

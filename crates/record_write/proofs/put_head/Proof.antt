@@ -6,12 +6,6 @@ use lib.ListN.{length-set}
 use Rattle.record_write.proofs.put_head.Statement.{statement}
 use Rattle.record_write.proofs.put_head.Tie as tie
 
-slice-write-bytes : tie.Need-slice-write-bytes
-slice-write-bytes c = search needs
-
-add-put-number : tie.Need-add-put-number
-add-put-number c = search needs
-
 put-number-requires : tie.Need-put-number-requires
 put-number-requires c κs = let a = c .before .before .args in omega (arith, length-set (a .bytes .now) (a .at) (a .tag))
 
@@ -25,4 +19,4 @@ returns c = let a = c .before .before .before .before .before .args in rw (add-o
 
 pub put-head-spec : {M : Type 1} → statement M
 put-head-spec =
-    tie.close (tie.spec slice-write-bytes add-put-number put-number-requires same-length returns)
+    tie.close (tie.spec (λ c. search needs) (λ c. search needs) (λ c. search needs) put-number-requires same-length returns)

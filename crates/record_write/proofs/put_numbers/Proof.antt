@@ -1,11 +1,12 @@
 -- `record_write::put_numbers` meets its contract. Assumes nothing.
-use Prim.Native.Nat.{_+_, _*_, _-_, _≤_}
+use Prim.Native.Nat.{_+_, _-_, _≤_}
 use mathlib.Core.Path.{_≡_}
 use native.Mathlib.Omega.{arith}
 use borrow.Author.Needs.{needs}
 use lib.ListN.{length, take, getD, length-take}
 use lib.Seq.{take-all}
 use Rattle.lists.proofs.Stores.{Stored, stored-none, stored-more}
+use Rattle.record_format.specs.Layout.{numbersLength}
 use Rattle.record_format.specs.Fields.{number, numbers}
 use Rattle.record_format.proofs.Fields.{length-numbers, numbers-last}
 use Rattle.record_write.proofs.put_numbers.Statement.{statement}
@@ -21,43 +22,27 @@ loop-holds : tie.Need-loop-holds Inv-loop μ-loop
 unfolding numbers
 loop-holds c = (omega arith, stored-none)
 
-mul-put-number : tie.Need-mul-put-number Inv-loop μ-loop
-mul-put-number c = search needs
-
-add-put-number : tie.Need-add-put-number Inv-loop μ-loop
-add-put-number c = search needs
-
-mul-put-number-2 : tie.Need-mul-put-number-2 Inv-loop μ-loop
-mul-put-number-2 c = search needs
-
-shared-slice-read-put-number : tie.Need-shared-slice-read-put-number Inv-loop μ-loop
-shared-slice-read-put-number c = search needs
-
 cast-put-number : tie.Need-cast-put-number Inv-loop μ-loop
 cast-put-number c = omega (arith, c .shared-slice-known2 .given (c .before .before .before .loop .k))
 
 put-number-requires : tie.Need-put-number-requires Inv-loop μ-loop
 put-number-requires c κs = omega (arith, c .shared-slice-known2 .given (c .before .before .before .loop .k))
 
-add-k : tie.Need-add-k Inv-loop μ-loop
-add-k c = search needs
-
-loop-less : tie.Need-loop-less Inv-loop μ-loop
-loop-less c = search needs
+-- the loop, from where a number is written
+abbrev turn : tie.After-put-number Inv-loop μ-loop → tie.At-loop Inv-loop μ-loop
+turn c = c .before .before .before .before
 
 loop-again : tie.Need-loop-again Inv-loop μ-loop
 loop-again c =
-    let l = c .before .before .before .before .before .before .loop in
-    let a = c .before .before .before .before .before .before .before .before .before .args in
-    let next : a .at + 2 * l .k ≡ a .at + length (numbers (take (l .k) (a .row .now))) =
+    let t = turn (c .before .before) in
+    let l = t .loop in
+    let a = t .before .before .before .args in
+    let next : a .at + numbersLength (l .k) ≡ a .at + length (numbers (take (l .k) (a .row .now))) =
     omega (arith, length-numbers (take (l .k) (a .row .now)), length-take (l .k) (a .row .now)) in (
       omega arith,
       rw (numbers-last (a .row .now) (l .k) (omega arith))
-          (stored-more (l .inv .1) (a .at + 2 * l .k) (number (getD (a .row .now) (l .k) 0)) next (c .before .before .put-number .ensures)),
+          (stored-more (l .inv .1) (a .at + numbersLength (l .k)) (number (getD (a .row .now) (l .k) 0)) next (c .before .before .put-number .ensures)),
     )
-
-same-length : tie.Need-same-length Inv-loop μ-loop
-same-length c = search needs
 
 returns : tie.Need-returns Inv-loop μ-loop
 returns c = let l = c .before .loop in rw (take-all (l .k) (c .before .before .before .before .args .row .now) (omega arith)) at (l .inv .1 .is)
@@ -69,14 +54,14 @@ put-numbers-spec =
     Inv-loop
     μ-loop
     loop-holds
-    mul-put-number
-    add-put-number
-    mul-put-number-2
-    shared-slice-read-put-number
+    (λ c. search needs)
+    (λ c. search needs)
+    (λ c. search needs)
+    (λ c. search needs)
     cast-put-number
     put-number-requires
-    add-k
-    loop-less
+    (λ c. search needs)
+    (λ c. search needs)
     loop-again
-    same-length
+    (λ c. search needs)
     returns)

@@ -1,4 +1,5 @@
--- `record_write::put_rows` meets its contract. Assumes nothing.
+-- `record_write::put_rows` meets its contract. It goes row by row: before row i the fields of the first i rows are stored (`Stored`), and
+-- the field of row i follows them. Assumes nothing.
 use Prim.Native.Nat.{_+_, _*_, _-_, _≤_}
 use mathlib.Core.Path.{_≡_}
 use native.Mathlib.Omega.{arith}
@@ -7,26 +8,34 @@ use lib.ListN.{length, take, drop, length-take, length-drop}
 use Rattle.lists.specs.Joined.{joined}
 use Rattle.lists.proofs.Joined.{joined-more}
 use Rattle.lists.proofs.Stores.{Stored, stored-none, stored-more}
-use Rattle.record_format.specs.Record.{rowOf, rowField}
+use Rattle.record_format.specs.Layout.{rowFieldsAt, fieldLength}
+use Rattle.record_format.specs.Record.{rowField}
 use Rattle.lists.proofs.Parts.{part-end}
+use Rattle.shape.specs.Rules.{rowOf}
 use Rattle.record_format.proofs.Fields.{length-row-fields}
 use Rattle.record_write.proofs.put_rows.Statement.{statement}
 use Rattle.record_write.proofs.put_rows.Tie as tie
 
 abbrev Inv-loop : tie.InvT-loop
 Inv-loop bytes₀ rows columns readings at₀ start₀ i₀ bytes at start i =
-    (i ≤ rows) × (start ≡ i * columns) × (at ≡ 19 + i * (3 + 2 * columns)) × Stored bytes₀ 19 (joined (rowField columns readings) 0 i) bytes
+    (i ≤ rows) × (start ≡ i * columns) × (at ≡ rowFieldsAt + i * fieldLength columns)
+    × Stored bytes₀ rowFieldsAt (joined (rowField columns readings) 0 i) bytes
 
 abbrev μ-loop : tie.MeasureT-loop
 μ-loop bytes₀ rows columns readings at₀ start₀ i₀ bytes at start i = rows - i
 
 -- the row at hand ends within the readings and the bytes
 row-end : (c : tie.In-loop Inv-loop μ-loop) → let a = c .before .before .before .before .args in
-    (c .before .loop .start + a .columns ≤ length (a .readings .now)) × (c .before .loop .at + (3 + 2 * a .columns) ≤ length (c .before .loop .bytes))
+    (c .before .loop .start + a .columns ≤ length (a .readings .now))
+    × (c .before .loop .at + fieldLength (a .columns) ≤ length (c .before .loop .bytes))
 row-end c =
     let a = c .before .before .before .before .args in
     let i = c .before .loop .i in
-    (omega (arith, part-end i (a .rows) (a .columns) (omega arith)), omega (arith, part-end i (a .rows) (3 + 2 * a .columns) (omega arith)))
+    (omega (arith, part-end i (a .rows) (a .columns) (omega arith)), omega (arith, part-end i (a .rows) (fieldLength (a .columns)) (omega arith)))
+
+-- the turn, from its end
+abbrev turn : tie.After-slice-known2 Inv-loop μ-loop → tie.In-loop Inv-loop μ-loop
+turn c = c .before .before .before .before .before
 
 loop-holds : tie.Need-loop-holds Inv-loop μ-loop
 unfolding joined
@@ -51,29 +60,24 @@ put-row-requires : tie.Need-put-row-requires Inv-loop μ-loop
 put-row-requires c κs = simp (length-take, length-drop) (omega (arith, row-end (c .before .before)))
 
 mul-at : tie.Need-mul-at Inv-loop μ-loop
-mul-at c = omega (arith, row-end (c .before .before .before .before .before))
+mul-at c = omega (arith, row-end (turn c))
 
 add-at : tie.Need-add-at Inv-loop μ-loop
-add-at c = omega (arith, row-end (c .before .before .before .before .before))
+add-at c = omega (arith, row-end (turn c))
 
 add-at-2 : tie.Need-add-at-2 Inv-loop μ-loop
-add-at-2 c = omega (arith, row-end (c .before .before .before .before .before))
-
-add-i : tie.Need-add-i Inv-loop μ-loop
-add-i c = search needs
-
-loop-less : tie.Need-loop-less Inv-loop μ-loop
-loop-less c = search needs
+add-at-2 c = omega (arith, row-end (turn c))
 
 loop-again : tie.Need-loop-again Inv-loop μ-loop
 loop-again c =
-    let l = c .before .before .before .before .before .before .loop in
-    let a = c .before .before .before .before .before .before .before .before .before .args in
+    let t = turn c .before in
+    let l = t .loop in
+    let a = t .before .before .before .args in
     let row-is : take (l .start + a .columns - l .start) (drop (l .start) (a .readings .now)) ≡ rowOf (a .columns) (a .readings .now) (l .i) =
     let n : l .start + a .columns - l .start ≡ a .columns = omega arith in
     let s = l .inv .1 in
     cc in
-    let next : l .at ≡ 19 + length (joined (rowField (a .columns) (a .readings .now)) 0 (l .i)) =
+    let next : l .at ≡ rowFieldsAt + length (joined (rowField (a .columns) (a .readings .now)) 0 (l .i)) =
     omega (arith, length-row-fields (a .columns) (a .readings .now) (l .i) (a .rows) (omega arith) (omega arith)) in (
       omega arith,
       omega arith,
@@ -81,9 +85,6 @@ loop-again c =
       rw (joined-more (rowField (a .columns) (a .readings .now)) (l .i))
           (stored-more (l .inv .3) (l .at) (rowField (a .columns) (a .readings .now) (l .i)) next (rw row-is at (c .before .before .put-row .ensures))),
     )
-
-same-length : tie.Need-same-length Inv-loop μ-loop
-same-length c = search needs
 
 returns : tie.Need-returns Inv-loop μ-loop
 returns c =
@@ -107,8 +108,8 @@ put-rows-spec =
     mul-at
     add-at
     add-at-2
-    add-i
-    loop-less
+    (λ c. search needs)
+    (λ c. search needs)
     loop-again
-    same-length
+    (λ c. search needs)
     returns)

@@ -4,45 +4,38 @@ use mathlib.Core.List.{_∷_}
 use native.Mathlib.Omega.{arith}
 use borrow.Author.Needs.{needs}
 use Rattle.lists.proofs.Stores.{Stored, stored, stored-more}
+use Rattle.record_format.specs.Layout.{numberLength, bodyOf, numbersLength}
 use Rattle.record_format.specs.Fields.{number, numbers, field}
 use Rattle.record_write.proofs.put_two.Statement.{statement}
 use Rattle.record_write.proofs.put_two.Tie as tie
 
-put-head-requires : tie.Need-put-head-requires
-put-head-requires c κs = search needs
+-- the head is written, then the numbers
+abbrev headed : tie.After-put-number → tie.After-put-head
+headed c = c .before .before .before .before
 
-add-put-number : tie.Need-add-put-number
-add-put-number c = search needs
-
-put-number-requires : tie.Need-put-number-requires
-put-number-requires c κs = search needs
-
-add-put-number-2 : tie.Need-add-put-number-2
-add-put-number-2 c = search needs
-
-put-number-requires-2 : tie.Need-put-number-requires-2
-put-number-requires-2 c κs = search needs
-
-same-length : tie.Need-same-length
-same-length c = search needs
+abbrev first : tie.After-put-number2 → tie.After-put-number
+first c = c .before .before .before .before
 
 returns : tie.Need-returns
 unfolding field numbers number
 returns c =
-    let a = c .before .before .before .before .before .before .before .before .before .before .before .before .before .args in
-    let head : Stored (a .bytes .now) (a .at) (a .tag ∷ number 4) _ = stored
-    (c .before .before .before .before .before .before .before .before .before .before .put-head .ensures) in
-    let first = stored-more head (a .at + 3) (number (a .x)) (omega arith) (c .before .before .before .before .before .before .put-number .ensures) in
-    stored-more first (a .at + 5) (number (a .y)) (omega arith) (c .before .before .put-number2 .ensures) .is
+    let x = first (c .before .before) in
+    let h = headed x in
+    let a = h .before .before .before .args in
+    let head : Stored (a .bytes .now) (a .at) (a .tag ∷ number (numbersLength 2)) _ = stored (h .put-head .ensures) in
+    let one = stored-more head (bodyOf (a .at)) (number (a .x)) (omega arith) (x .put-number .ensures) in
+    stored-more one (bodyOf (a .at) + numberLength) (number (a .y)) (omega arith) (c .before .before .put-number2 .ensures) .is
 
 pub put-two-spec : {M : Type 1} → statement M
 put-two-spec =
     tie.close
     (tie.spec
-    put-head-requires
-    add-put-number
-    put-number-requires
-    add-put-number-2
-    put-number-requires-2
-    same-length
+    (λ c. search needs)
+    (λ c κs. search needs)
+    (λ c. search needs)
+    (λ c κs. search needs)
+    (λ c. search needs)
+    (λ c. search needs)
+    (λ c κs. search needs)
+    (λ c. search needs)
     returns)

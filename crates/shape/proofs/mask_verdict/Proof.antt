@@ -1,28 +1,16 @@
 -- `shape::mask_verdict` meets its contract. Assumes nothing.
-use Rattle.refusal.specs.Outcome.{firstDue}
-use Rattle.refusal.proofs.Outcome.{tests}
+use borrow.Author.Needs.{needs}
+use Rattle.refusal.specs.Limits.{mostMaskRows, mostMaskColumns}
+use Rattle.refusal.proofs.Outcome.{first-of-due}
+use Rattle.shape.specs.Rules.{sideRules}
 use Rattle.shape.proofs.mask_verdict.Statement.{statement}
 use Rattle.shape.proofs.mask_verdict.Tie as tie
 
 returns : tie.Need-returns
-unfolding firstDue
-returns c = search tests
-
-returns-2 : tie.Need-returns-2
-unfolding firstDue
-returns-2 c = search tests
-
-returns-3 : tie.Need-returns-3
-unfolding firstDue
-returns-3 c = search tests
-
-returns-4 : tie.Need-returns-4
-unfolding firstDue
-returns-4 c = search tests
-
-returns-5 : tie.Need-returns-5
-unfolding firstDue
-returns-5 c = search tests
+returns c =
+    let a = c .before .before .before .args in
+    first-of-due (sideRules mostMaskRows (a .mask-rows)) (sideRules mostMaskColumns (a .mask-columns))
+    (c .before .before .side-verdict .ensures) (c .before .side-verdict2 .ensures) (c .first-of .ensures)
 
 pub mask-verdict-spec : {M : Type 1} → statement M
-mask-verdict-spec = tie.close (tie.spec returns returns-2 returns-3 returns-4 returns-5)
+mask-verdict-spec = tie.close (tie.spec (λ c κs. search needs) (λ c κs. search needs) (λ c κs. search needs) returns)

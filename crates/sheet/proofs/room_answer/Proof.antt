@@ -3,7 +3,7 @@ use mathlib.Core.Path.{_≡_, ap, sym, _∙_}
 use borrow.Author.Needs.{needs}
 use Rattle.refusal.specs.Outcome.{Outcome, verdict, andThen}
 use Rattle.refusal.specs.Outcome.Outcome.{accepted}
-use Rattle.filter.specs.Calls.{roomCall}
+use Rattle.filter.specs.Calls.{roomDue}
 use Rattle.sheet.specs.Sheet.{engineFor}
 use Rattle.sheet.proofs.room_answer.Statement.{statement}
 use Rattle.sheet.proofs.room_answer.Tie as tie
@@ -13,20 +13,8 @@ start c = c .before .before
 
 -- what the tests said, of the engine that was chosen
 said : (c : tie.After-room-verdict) → let a = start c .args in
-    verdict (c .room-verdict .result) ≡ roomCall (engineFor (a .shape) (a .work)) (a .shape) (a .output) (a .work)
+    verdict (c .room-verdict .result) ≡ roomDue (engineFor (a .shape) (a .work)) (a .shape) (a .output) (a .work)
 said c = rw (c .before .engine-for .ensures) at (c .room-verdict .ensures)
-
-engine-for-requires : tie.Need-engine-for-requires
-engine-for-requires c κs = search needs
-
-room-verdict-requires : tie.Need-room-verdict-requires
-room-verdict-requires c κs = search needs
-
-enum-known-f : tie.Need-enum-known-f
-enum-known-f c = search needs
-
-enum-told : tie.Need-enum-told
-enum-told c = search needs
 
 returns : tie.Need-returns
 returns c =
@@ -41,4 +29,4 @@ returns-2 c =
 pub room-answer-spec : {M : Type 1} → statement M
 room-answer-spec =
     tie.close
-    (tie.spec engine-for-requires room-verdict-requires enum-known-f enum-told returns returns-2)
+    (tie.spec (λ c κs. search needs) (λ c κs. search needs) (λ c. search needs) (λ c. search needs) returns returns-2)

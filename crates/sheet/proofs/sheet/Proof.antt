@@ -3,8 +3,8 @@ use mathlib.Core.Path.{_≡_, ap, sym, _∙_}
 use borrow.Author.Needs.{needs}
 use lib.ListN.{length}
 use Rattle.refusal.specs.Outcome.Outcome.{accepted}
-use Rattle.record.specs.Calls.{readTold}
-use Rattle.sheet.specs.Sheet.{sheetCall, RecordFiltered}
+use Rattle.record.specs.Calls.{readOutcome}
+use Rattle.sheet.specs.Sheet.{sheetDue}
 use Rattle.sheet.proofs.Calls.{SheetAccepted, sheet-accepted, output-sizes, output-clear, output-text, refused-sheet, printed-sheet}
 use Rattle.sheet.proofs.Fits.{told-fits}
 use Rattle.sheet.proofs.sheet.Statement.{statement}
@@ -25,31 +25,19 @@ filtered c = c .before .before .before .before .before .before .before .before
 
 -- what the tests said
 said : (c : tie.After-sheet-verdict) → let a = start c .args in
-    readTold (c .sheet-verdict .result) ≡ sheetCall (a .bytes .now) (length (a .readings .now)) (length (a .output .now)) (length (a .work .now))
+    readOutcome (c .sheet-verdict .result) ≡ sheetDue (a .bytes .now) (length (a .readings .now)) (length (a .output .now)) (length (a .work .now))
 said c = c .sheet-verdict .ensures
 
 -- they have passed
 passed : (c : tie.After-shape) → let a = start (tests c) .args in
-    sheetCall (a .bytes .now) (length (a .readings .now)) (length (a .output .now)) (length (a .work .now)) ≡ accepted (c .shape .given .0 .0)
-passed c = sym (said (tests c)) ∙ ap readTold (c .shape .given .1)
+    sheetDue (a .bytes .now) (length (a .readings .now)) (length (a .output .now)) (length (a .work .now)) ≡ accepted (c .shape .given .0 .0)
+passed c = sym (said (tests c)) ∙ ap readOutcome (c .shape .given .1)
 
 clear : (c : tie.After-shape) → let a = start (tests c) .args in
     SheetAccepted (a .bytes .now) (length (a .readings .now)) (length (a .output .now)) (length (a .work .now)) (c .shape .given .0 .0)
 clear c =
     let a = start (tests c) .args in
     sheet-accepted (a .bytes .now) (length (a .readings .now)) (length (a .output .now)) (length (a .work .now)) (c .shape .given .0 .0) (passed c)
-
-sheet-verdict-requires : tie.Need-sheet-verdict-requires
-sheet-verdict-requires c κs = search needs
-
-enum-known-f : tie.Need-enum-known-f
-enum-known-f c = search needs
-
-put-refusal-requires : tie.Need-put-refusal-requires
-put-refusal-requires c κs = search needs
-
-enum-known-shape : tie.Need-enum-known-shape
-enum-known-shape c = search needs
 
 filter-record-requires : tie.Need-filter-record-requires
 filter-record-requires c κs = passed (c .before .before .before .before)
@@ -64,27 +52,12 @@ put-lines-requires c κs =
       output-clear (a .bytes .now) (a .readings .now) (a .output .now) (a .work .now) (clear s) is,
     )
 
-same-length : tie.Need-same-length
-same-length c = search needs
-
 returns : tie.Need-returns
 returns c =
     let p = c .before .before in
     let f = p .before .before .before in
-    let s = refused-sheet (sym (said (f .before .before)) ∙ ap readTold (f .f .given .1)) (p .put-refusal .ensures) in
+    let s = refused-sheet (sym (said (f .before .before)) ∙ ap readOutcome (f .f .given .1)) (p .put-refusal .ensures) in
     (s, told-fits s)
-
-same-length-2 : tie.Need-same-length-2
-same-length-2 c = search needs
-
-same-length-3 : tie.Need-same-length-3
-same-length-3 c = search needs
-
-same-length-4 : tie.Need-same-length-4
-same-length-4 c = search needs
-
-same-length-5 : tie.Need-same-length-5
-same-length-5 c = search needs
 
 returns-2 : tie.Need-returns-2
 returns-2 c =
@@ -100,16 +73,16 @@ pub sheet-spec : {M : Type 1} → statement M
 sheet-spec =
     tie.close
     (tie.spec
-    sheet-verdict-requires
-    enum-known-f
-    put-refusal-requires
-    enum-known-shape
+    (λ c κs. search needs)
+    (λ c. search needs)
+    (λ c κs. search needs)
+    (λ c. search needs)
     filter-record-requires
     put-lines-requires
-    same-length
+    (λ c. search needs)
     returns
-    same-length-2
-    same-length-3
-    same-length-4
-    same-length-5
+    (λ c. search needs)
+    (λ c. search needs)
+    (λ c. search needs)
+    (λ c. search needs)
     returns-2)

@@ -1,5 +1,5 @@
 -- `sheet_lines::put_head` meets its contract: five words, each with its number, are laid one after the other, and a line end. Assumes nothing.
-use Prim.Native.Nat.{_+_, _≤_}
+use Prim.Native.Nat.{_≤_}
 use mathlib.Core.Path.{_∙_}
 use native.Mathlib.Omega.{arith}
 use borrow.Author.Needs.{needs}
@@ -44,47 +44,14 @@ after-fourth c = omega (arith, after-third (third c), c .put-counted4 .ensures .
 after-fifth : (c : tie.After-put-counted5) → c .put-counted5 .result ≤ 128
 after-fifth c = omega (arith, after-fourth (fourth c), c .put-counted5 .ensures .after, counted-most space (start (first (second (third (fourth c)))) .args .shape .«mask_columns»))
 
-slice-aggregate-put-counted : tie.Need-slice-aggregate-put-counted
-slice-aggregate-put-counted c = search needs
-
-cast-put-counted : tie.Need-cast-put-counted
-cast-put-counted c = search needs
-
-put-counted-requires : tie.Need-put-counted-requires
-put-counted-requires c κs = search needs
-
-slice-aggregate-put-counted-2 : tie.Need-slice-aggregate-put-counted-2
-slice-aggregate-put-counted-2 c = search needs
-
-cast-put-counted-2 : tie.Need-cast-put-counted-2
-cast-put-counted-2 c = search needs
-
 put-counted-requires-2 : tie.Need-put-counted-requires-2
 put-counted-requires-2 c κs = omega (arith, after-first (c .before .before .before .before .before))
-
-slice-aggregate-put-counted-3 : tie.Need-slice-aggregate-put-counted-3
-slice-aggregate-put-counted-3 c = search needs
-
-cast-put-counted-3 : tie.Need-cast-put-counted-3
-cast-put-counted-3 c = search needs
 
 put-counted-requires-3 : tie.Need-put-counted-requires-3
 put-counted-requires-3 c κs = omega (arith, after-second (c .before .before .before .before .before))
 
-slice-aggregate-put-counted-4 : tie.Need-slice-aggregate-put-counted-4
-slice-aggregate-put-counted-4 c = search needs
-
-cast-put-counted-4 : tie.Need-cast-put-counted-4
-cast-put-counted-4 c = search needs
-
 put-counted-requires-4 : tie.Need-put-counted-requires-4
 put-counted-requires-4 c κs = omega (arith, after-third (c .before .before .before .before .before))
-
-slice-aggregate-put-counted-5 : tie.Need-slice-aggregate-put-counted-5
-slice-aggregate-put-counted-5 c = search needs
-
-cast-put-counted-5 : tie.Need-cast-put-counted-5
-cast-put-counted-5 c = search needs
 
 put-counted-requires-5 : tie.Need-put-counted-requires-5
 put-counted-requires-5 c κs = omega (arith, after-fourth (c .before .before .before .before .before))
@@ -117,20 +84,20 @@ pub put-head-spec : {M : Type 1} → statement M
 put-head-spec =
     tie.close
     (tie.spec
-    slice-aggregate-put-counted
-    cast-put-counted
-    put-counted-requires
-    slice-aggregate-put-counted-2
-    cast-put-counted-2
+    (λ c. search needs)
+    (λ c. search needs)
+    (λ c κs. search needs)
+    (λ c. search needs)
+    (λ c. search needs)
     put-counted-requires-2
-    slice-aggregate-put-counted-3
-    cast-put-counted-3
+    (λ c. search needs)
+    (λ c. search needs)
     put-counted-requires-3
-    slice-aggregate-put-counted-4
-    cast-put-counted-4
+    (λ c. search needs)
+    (λ c. search needs)
     put-counted-requires-4
-    slice-aggregate-put-counted-5
-    cast-put-counted-5
+    (λ c. search needs)
+    (λ c. search needs)
     put-counted-requires-5
     put-byte-requires
     same-length

@@ -9,15 +9,16 @@ use lib.ListN.{length, drop, length-take}
 use Rattle.lists.specs.Joined.{joined}
 use Rattle.lists.proofs.Joined.{joined-more}
 use Rattle.refusal.specs.Limits.{mostRows, mostColumns}
+use Rattle.shape.specs.Rules.{rowOf}
 use Rattle.text.specs.Text.{Laid}
 use Rattle.text.proofs.TextLaws.{laid-none, laid-more, laid-length}
-use Rattle.sheet_lines.specs.Lines.{rowLine, rowOf, imageLines}
+use Rattle.sheet_lines.specs.Lines.{rowLine, imageLines}
 use Rattle.sheet_lines.proofs.Lengths.{head-short, rows-most}
 use Rattle.sheet_lines.proofs.put_lines.Statement.{statement}
 use Rattle.sheet_lines.proofs.put_lines.Tie as tie
 
 abbrev Inv-loop : tie.InvT-loop
-Inv-loop text₀ shape phases columns place₀ i₀ text place i = (i ≤ shape .rows) × Laid text₀ place₀ (joined (λ k. rowLine (shape .cycle) k (rowOf shape phases k)) 0 i) place text
+Inv-loop text₀ shape phases columns place₀ i₀ text place i = (i ≤ shape .rows) × Laid text₀ place₀ (joined (λ k. rowLine (shape .cycle) k (rowOf (shape .columns) phases k)) 0 i) place text
 
 abbrev μ-loop : tie.MeasureT-loop
 μ-loop text₀ shape phases columns place₀ i₀ text place i = shape .rows - i
@@ -31,12 +32,6 @@ inside s i h =
     let all : s .args .shape .rows * n ≤ mostRows * mostColumns =
     mul-le-mul {n₁ = s .args .shape .rows} {m₁ = n} {n₂ = mostRows} {m₂ = mostColumns} (s .pre .0 .0) (s .pre .0 .1) in
     (omega (arith, mul-le-mul-right n h, s .pre .0 .2), omega (arith, mul-le-mul-right n h, all))
-
-cast-columns : tie.Need-cast-columns Inv-loop μ-loop
-cast-columns c = search needs
-
-put-head-requires : tie.Need-put-head-requires Inv-loop μ-loop
-put-head-requires c κs = search needs
 
 -- from within the loop: its head, the first line, and the start of the function
 abbrev turn : tie.Then1 Inv-loop μ-loop → tie.At-loop Inv-loop μ-loop
@@ -72,9 +67,6 @@ loop-holds : tie.Need-loop-holds Inv-loop μ-loop
 unfolding joined
 loop-holds c = (omega arith, laid-none)
 
-cast-if1 : tie.Need-cast-if1 Inv-loop μ-loop
-cast-if1 c = search needs
-
 mul-start : tie.Need-mul-start Inv-loop μ-loop
 mul-start c = omega (arith, row-inside c)
 
@@ -83,12 +75,6 @@ add-end c = omega (arith, row-inside c)
 
 mul-put-row : tie.Need-mul-put-row Inv-loop μ-loop
 mul-put-row c = omega (arith, row-inside (c .before))
-
-sub-put-row : tie.Need-sub-put-row Inv-loop μ-loop
-sub-put-row c = search needs
-
-part-put-row-start : tie.Need-part-put-row-start Inv-loop μ-loop
-part-put-row-start c = search needs
 
 part-put-row-end : tie.Need-part-put-row-end Inv-loop μ-loop
 part-put-row-end c = omega (arith, row-inside (c .before))
@@ -119,7 +105,7 @@ loop-again c =
     let p = c .before .before .put-row in
     let n = a .shape .columns in
     let e : l .i * n + n - l .i * n ≡ n = omega arith in
-    let f : (ℕ → List ℕ) = λ k. rowLine (a .shape .cycle) k (rowOf (a .shape) (a .phases .now) k) in (
+    let f : (ℕ → List ℕ) = λ k. rowLine (a .shape .cycle) k (rowOf (a .shape .columns) (a .phases .now) k) in (
       omega (arith, k .if1 .taken),
       subst (λ (w : List ℕ). Laid (h .last .0) (h .result) w (p .result) (p .last .0)) (sym (joined-more f (l .i)))
           (laid-more (l .inv .1) (rw e at (p .ensures))),
@@ -143,15 +129,15 @@ put-lines-spec =
     (tie.spec
     Inv-loop
     μ-loop
-    cast-columns
-    put-head-requires
+    (λ c. search needs)
+    (λ c κs. search needs)
     loop-holds
-    cast-if1
+    (λ c. search needs)
     mul-start
     add-end
     mul-put-row
-    sub-put-row
-    part-put-row-start
+    (λ c. search needs)
+    (λ c. search needs)
     part-put-row-end
     put-row-requires
     add-i

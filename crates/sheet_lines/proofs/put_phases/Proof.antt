@@ -28,24 +28,12 @@ loop-holds : tie.Need-loop-holds Inv-loop μ-loop
 unfolding phaseWords
 loop-holds c = (omega arith, laid-none)
 
-mul-put-phase : tie.Need-mul-put-phase Inv-loop μ-loop
-mul-put-phase c = search needs
-
-shared-slice-read-put-phase : tie.Need-shared-slice-read-put-phase Inv-loop μ-loop
-shared-slice-read-put-phase c = search needs
-
 put-phase-requires : tie.Need-put-phase-requires Inv-loop μ-loop
 put-phase-requires c κs =
     let k = c .before .before in
     let l = k .before .loop in
     let row = start k .args .row .now in
     omega (arith, l .inv .1 .after, words-most (take (l .i) row), length-take (l .i) row)
-
-add-i : tie.Need-add-i Inv-loop μ-loop
-add-i c = search needs
-
-loop-less : tie.Need-loop-less Inv-loop μ-loop
-loop-less c = search needs
 
 loop-again : tie.Need-loop-again Inv-loop μ-loop
 loop-again c =
@@ -74,11 +62,11 @@ put-phases-spec =
     Inv-loop
     μ-loop
     loop-holds
-    mul-put-phase
-    shared-slice-read-put-phase
+    (λ c. search needs)
+    (λ c. search needs)
     put-phase-requires
-    add-i
-    loop-less
+    (λ c. search needs)
+    (λ c. search needs)
     loop-again
     same-length
     returns)

@@ -22,24 +22,6 @@ first c = c .before .before .before .before .before .before
 abbrev start : tie.After-put-counted → tie.Start
 start c = c .before .before .before .before .before
 
-slice-aggregate-put-counted : tie.Need-slice-aggregate-put-counted
-slice-aggregate-put-counted c = search needs
-
-number-requires : tie.Need-number-requires
-number-requires c κs = search needs
-
-cast-put-counted : tie.Need-cast-put-counted
-cast-put-counted c = search needs
-
-put-counted-requires : tie.Need-put-counted-requires
-put-counted-requires c κs = search needs
-
-slice-aggregate-put-counted-2 : tie.Need-slice-aggregate-put-counted-2
-slice-aggregate-put-counted-2 c = search needs
-
-place-requires : tie.Need-place-requires
-place-requires c κs = search needs
-
 put-counted-requires-2 : tie.Need-put-counted-requires-2
 put-counted-requires-2 c κs =
     let a = c .before .before .before .before .before in
@@ -57,9 +39,6 @@ put-byte-requires c κs =
       counted-most atWord (b .before .place .result),
     )
 
-same-length : tie.Need-same-length
-same-length c = search needs
-
 returns : tie.Need-returns
 returns c =
     let g = c .before .before in
@@ -72,13 +51,13 @@ pub put-refusal-spec : {M : Type 1} → statement M
 put-refusal-spec =
     tie.close
     (tie.spec
-    slice-aggregate-put-counted
-    number-requires
-    cast-put-counted
-    put-counted-requires
-    slice-aggregate-put-counted-2
-    place-requires
+    (λ c. search needs)
+    (λ c κs. search needs)
+    (λ c. search needs)
+    (λ c κs. search needs)
+    (λ c. search needs)
+    (λ c κs. search needs)
     put-counted-requires-2
     put-byte-requires
-    same-length
+    (λ c. search needs)
     returns)

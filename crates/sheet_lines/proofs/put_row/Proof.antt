@@ -34,12 +34,6 @@ name c = c .before .before .before .before
 abbrev start : tie.After-put-counted → tie.Start
 start c = c .before .before .before .before .before
 
-slice-aggregate-put-counted : tie.Need-slice-aggregate-put-counted
-slice-aggregate-put-counted c = search needs
-
-put-counted-requires : tie.Need-put-counted-requires
-put-counted-requires c κs = search needs
-
 put-byte-requires : tie.Need-put-byte-requires
 put-byte-requires c κs =
     let n = c .before .before .before in
@@ -78,16 +72,10 @@ after-number z =
     let e : z .put-signed .result ≡ word z .put-bytes .result + length (signed n) = z .put-signed .ensures .after in
     omega (arith, e, signed-most n, after-word (word z))
 
-slice-aggregate-put-bytes : tie.Need-slice-aggregate-put-bytes
-slice-aggregate-put-bytes c = search needs
-
 put-bytes-requires : tie.Need-put-bytes-requires
 put-bytes-requires c κs =
     let h = after-phases (c .before .before .before .before) in
     omega (arith, h)
-
-row-drift-requires : tie.Need-row-drift-requires
-row-drift-requires c κs = search needs
 
 put-signed-requires : tie.Need-put-signed-requires
 put-signed-requires c κs =
@@ -97,9 +85,6 @@ put-signed-requires c κs =
 
 put-byte-requires-2 : tie.Need-put-byte-requires-2
 put-byte-requires-2 c κs = after-number (c .before .before .before)
-
-same-length : tie.Need-same-length
-same-length c = search needs
 
 returns : tie.Need-returns
 returns c =
@@ -120,14 +105,14 @@ pub put-row-spec : {M : Type 1} → statement M
 put-row-spec =
     tie.close
     (tie.spec
-    slice-aggregate-put-counted
-    put-counted-requires
+    (λ c. search needs)
+    (λ c κs. search needs)
     put-byte-requires
     put-phases-requires
-    slice-aggregate-put-bytes
+    (λ c. search needs)
     put-bytes-requires
-    row-drift-requires
+    (λ c κs. search needs)
     put-signed-requires
     put-byte-requires-2
-    same-length
+    (λ c. search needs)
     returns)

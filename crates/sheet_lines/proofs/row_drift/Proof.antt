@@ -8,15 +8,6 @@ use Rattle.sheet_lines.proofs.Drifts.{told-drift, never-refused}
 use Rattle.sheet_lines.proofs.row_drift.Statement.{statement}
 use Rattle.sheet_lines.proofs.row_drift.Tie as tie
 
-drift-requires : tie.Need-drift-requires
-drift-requires c κs = search needs
-
-enum-known-d : tie.Need-enum-known-d
-enum-known-d c = search needs
-
-enum-told : tie.Need-enum-told
-enum-told c = search needs
-
 returns : tie.Need-returns
 returns c =
     let a = c .before .before .before .before .before .args in
@@ -29,4 +20,4 @@ returns-2 c =
     absurd (never-refused (a .cycle) (a .row .now) _ (c .before .before .before .before .pre) (c .before .before .drift .ensures) (c .enum-told .given .1))
 
 pub row-drift-spec : {M : Type 1} → statement M
-row-drift-spec = tie.close (tie.spec drift-requires enum-known-d enum-told returns returns-2)
+row-drift-spec = tie.close (tie.spec (λ c κs. search needs) (λ c. search needs) (λ c. search needs) returns returns-2)

@@ -6,26 +6,11 @@ use Rattle.window.proofs.Mirror.{mirror-low, mirror-middle, mirror-high
 use Rattle.window.proofs.mirrored.Statement.{statement}
 use Rattle.window.proofs.mirrored.Tie as tie
 
-sub-result : tie.Need-sub-result
-sub-result c = search needs
-
-sub-result-2 : tie.Need-sub-result-2
-sub-result-2 c = search needs
-
 returns : tie.Need-returns
 returns c = let a = c .before .args in sym (mirror-low (a .extent) (a .reach) (a .position) (omega arith))
 
 returns-2 : tie.Need-returns-2
 returns-2 c = let a = c .before .before .args in sym (mirror-middle (a .extent) (a .reach) (a .position) (omega arith) (omega arith))
-
-mul-result : tie.Need-mul-result
-mul-result c = search needs
-
-sub-result-3 : tie.Need-sub-result-3
-sub-result-3 c = search needs
-
-sub-result-4 : tie.Need-sub-result-4
-sub-result-4 c = search needs
 
 returns-3 : tie.Need-returns-3
 returns-3 c = let a = c .before .before .args in sym (mirror-high (a .extent) (a .reach) (a .position) (omega arith) (omega arith))
@@ -34,11 +19,11 @@ pub mirrored-spec : {M : Type 1} → statement M
 mirrored-spec =
     tie.close
     (tie.spec
-    sub-result
-    sub-result-2
+    (λ c. search needs)
+    (λ c. search needs)
     returns
     returns-2
-    mul-result
-    sub-result-3
-    sub-result-4
+    (λ c. search needs)
+    (λ c. search needs)
+    (λ c. search needs)
     returns-3)

@@ -1,17 +1,10 @@
 -- `circle_median::answers::refused_value` meets its contract. Assumes nothing.
-use mathlib.Core.Path.{refl}
 use borrow.Author.Needs.{needs}
 use Rattle.circle_median.proofs.answers.refused_value.Statement.{statement}
 use Rattle.circle_median.proofs.answers.refused_value.Tie as tie
-
-number-requires : tie.Need-number-requires
-number-requires c κs = search needs
-
-place-requires : tie.Need-place-requires
-place-requires c κs = search needs
 
 returns : tie.Need-returns
 returns c = rw (c .before .number .ensures, c .place .ensures)
 
 pub refused-value-spec : {M : Type 1} → statement M
-refused-value-spec = tie.close (tie.spec number-requires place-requires returns)
+refused-value-spec = tie.close (tie.spec (λ c κs. search needs) (λ c κs. search needs) returns)

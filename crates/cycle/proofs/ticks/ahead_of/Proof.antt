@@ -6,12 +6,6 @@ use Rattle.cycle.proofs.Ways.Way.{straight, round}
 use Rattle.cycle.proofs.ticks.ahead_of.Statement.{statement}
 use Rattle.cycle.proofs.ticks.ahead_of.Tie as tie
 
-sub-result : tie.Need-sub-result
-sub-result c = search needs
-
-sub-result-2 : tie.Need-sub-result-2
-sub-result-2 c = search needs
-
 returns : tie.Need-returns
 returns c = ahead-only (omega arith) (omega arith) (omega arith) (straight (omega arith))
 
@@ -19,4 +13,4 @@ returns-2 : tie.Need-returns-2
 returns-2 c = ahead-only (omega arith) (omega arith) (omega arith) (round (omega arith))
 
 pub ahead-of-spec : {M : Type 1} → statement M
-ahead-of-spec = tie.close (tie.spec sub-result sub-result-2 returns returns-2)
+ahead-of-spec = tie.close (tie.spec (λ c. search needs) (λ c. search needs) returns returns-2)

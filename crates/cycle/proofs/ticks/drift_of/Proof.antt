@@ -25,35 +25,21 @@ ticks c =
     let i = c .before .loop .i in
     (reading-below (a .cycle) (a .row .now) i (omega arith) (omega arith), reading-below (a .cycle) (a .row .now) (i + 1) (omega arith) (omega arith))
 
+-- the turn in which a way ahead was found
+abbrev turn : tie.After-ahead-of Inv-loop μ-loop → tie.In-loop Inv-loop μ-loop
+turn c = c .before .before .before
+
 -- the second lies less than a cycle ahead of the first
-less : (c : tie.After-ahead-of Inv-loop μ-loop) → c .ahead-of .result < c .before .before .before .before .before .before .args .cycle
+less : (c : tie.After-ahead-of Inv-loop μ-loop) → c .ahead-of .result < turn c .before .before .before .args .cycle
 less c =
-    let t = ticks (c .before .before .before) in
+    let t = ticks (turn c) in
     omega (arith, ahead-way _ _ _ (t .0) (t .1) .less, c .ahead-of .ensures)
 
 loop-holds : tie.Need-loop-holds Inv-loop μ-loop
 loop-holds c = (search needs, travelled-none)
 
-add-loop : tie.Need-add-loop Inv-loop μ-loop
-add-loop c = search needs
-
-mul-ahead-of : tie.Need-mul-ahead-of Inv-loop μ-loop
-mul-ahead-of c = search needs
-
-shared-slice-read-ahead-of : tie.Need-shared-slice-read-ahead-of Inv-loop μ-loop
-shared-slice-read-ahead-of c = search needs
-
 cast-ahead-of : tie.Need-cast-ahead-of Inv-loop μ-loop
 cast-ahead-of c = omega (arith, c .shared-slice-known2 .given (c .before .before .loop .i))
-
-add-ahead-of : tie.Need-add-ahead-of Inv-loop μ-loop
-add-ahead-of c = search needs
-
-mul-ahead-of-2 : tie.Need-mul-ahead-of-2 Inv-loop μ-loop
-mul-ahead-of-2 c = search needs
-
-shared-slice-read-ahead-of-2 : tie.Need-shared-slice-read-ahead-of-2 Inv-loop μ-loop
-shared-slice-read-ahead-of-2 c = search needs
 
 cast-ahead-of-2 : tie.Need-cast-ahead-of-2 Inv-loop μ-loop
 cast-ahead-of-2 c = omega (arith, c .shared-slice-known3 .given (c .before .before .before .loop .i + 1))
@@ -69,15 +55,9 @@ turn-back-requires c κs = omega (arith, less c)
 
 add-back : tie.Need-add-back Inv-loop μ-loop
 add-back c =
-    let l = c .before .before .before .before .before .loop in
-    let a = c .before .before .before .before .before .before .before .args in
+    let l = turn (c .before) .before .loop in
+    let a = turn (c .before) .before .before .before .args in
     omega (arith, l .inv .1 .down-small, off-small (a .cycle) (c .before .ahead-of .result), c .turn-back .ensures)
-
-add-i : tie.Need-add-i Inv-loop μ-loop
-add-i c = search needs
-
-loop-less : tie.Need-loop-less Inv-loop μ-loop
-loop-less c = search needs
 
 loop-again : tie.Need-loop-again Inv-loop μ-loop
 loop-again c =
@@ -97,20 +77,20 @@ drift-of-spec =
     Inv-loop
     μ-loop
     loop-holds
-    add-loop
-    mul-ahead-of
-    shared-slice-read-ahead-of
+    (λ c. search needs)
+    (λ c. search needs)
+    (λ c. search needs)
     cast-ahead-of
-    add-ahead-of
-    mul-ahead-of-2
-    shared-slice-read-ahead-of-2
+    (λ c. search needs)
+    (λ c. search needs)
+    (λ c. search needs)
     cast-ahead-of-2
     ahead-of-requires
     add-up
     turn-back-requires
     add-back
-    add-i
-    loop-less
+    (λ c. search needs)
+    (λ c. search needs)
     loop-again
     signed-requires
     returns)

@@ -5,12 +5,6 @@ use Rattle.cycle.proofs.SignedLaws.{sub-fits, sub-is}
 use Rattle.cycle.proofs.ticks.signed.Statement.{statement}
 use Rattle.cycle.proofs.ticks.signed.Tie as tie
 
-cast-result : tie.Need-cast-result
-cast-result c = search needs
-
-cast-result-2 : tie.Need-cast-result-2
-cast-result-2 c = search needs
-
 sub-result : tie.Need-sub-result
 sub-result c = sub-fits (c .args .up) (c .args .back) (omega arith) (omega arith)
 
@@ -18,4 +12,4 @@ returns : tie.Need-returns
 returns c = sub-is (c .args .up) (c .args .back) (omega arith) (omega arith)
 
 pub signed-spec : {M : Type 1} → statement M
-signed-spec = tie.close (tie.spec cast-result cast-result-2 sub-result returns)
+signed-spec = tie.close (tie.spec (λ c. search needs) (λ c. search needs) sub-result returns)

@@ -8,9 +8,6 @@ use Rattle.cycle.proofs.Ways.{ahead-way}
 use Rattle.cycle.proofs.ticks.signed_step.Statement.{statement}
 use Rattle.cycle.proofs.ticks.signed_step.Tie as tie
 
-ahead-of-requires : tie.Need-ahead-of-requires
-ahead-of-requires c κs = search needs
-
 turn-back-requires : tie.Need-turn-back-requires
 turn-back-requires c κs =
     let a = c .before .args in
@@ -35,4 +32,4 @@ returns c =
 
 pub signed-step-spec : {M : Type 1} → statement M
 signed-step-spec =
-    tie.close (tie.spec ahead-of-requires turn-back-requires signed-requires returns)
+    tie.close (tie.spec (λ c κs. search needs) turn-back-requires signed-requires returns)

@@ -1,49 +1,29 @@
 -- `cycle::verdicts::pair_verdict` meets its contract. Assumes nothing.
-use mathlib.Core.Path.{sym}
+use mathlib.Core.List.{[], _∷_}
 use borrow.Author.Needs.{needs}
-use Rattle.cycle.specs.Calls.{cycleRules}
 use Rattle.refusal.specs.Limits.{longestCycle}
-use Rattle.refusal.specs.Outcome.{Clear, firstDue}
-use Rattle.refusal.proofs.Outcome.{tests, passed-clear, refused-before}
+use Rattle.refusal.proofs.Outcome.{first-of-due}
+use Rattle.cycle.specs.Calls.{cycleRules, tickRule}
 use Rattle.cycle.proofs.verdicts.pair_verdict.Statement.{statement}
 use Rattle.cycle.proofs.verdicts.pair_verdict.Tie as tie
 
--- the tests that passed
-clear : (c : tie.After-enum-told) → Clear (cycleRules longestCycle (c .before .before .before .args .cycle))
-clear c = passed-clear (cycleRules longestCycle (c .before .before .before .args .cycle)) (c .before .before .cycle-verdict .ensures) (c .enum-told .given .1)
-
-cycle-verdict-requires : tie.Need-cycle-verdict-requires
-cycle-verdict-requires c κs = search needs
-
-enum-known-f : tie.Need-enum-known-f
-enum-known-f c = search needs
-
-enum-told : tie.Need-enum-told
-enum-told c = search needs
-
 returns : tie.Need-returns
-unfolding firstDue
 returns c =
-    let k = clear (c .before) in
-    search (tests, k .0, k .1 .0)
-
-returns-2 : tie.Need-returns-2
-unfolding firstDue
-returns-2 c =
-    let k = clear (c .before .before) in
-    search (tests, k .0, k .1 .0)
-
-returns-3 : tie.Need-returns-3
-returns-3 c = sym (refused-before (cycleRules longestCycle (c .before .before .before .before .args .cycle))
-    (c .before .before .before .cycle-verdict .ensures) tt _ (c .before .f .given .1))
-
-returns-4 : tie.Need-returns-4
-unfolding firstDue
-returns-4 c =
-    let k = clear (c .before .before) in
-    search (tests, k .0, k .1 .0)
+    let both = c .before .before in
+    let s = both .before .before .before in
+    let a = s .args in
+    let ticks = first-of-due (tickRule (a .cycle) (a .a) 0 ∷ []) (tickRule (a .cycle) (a .b) 1 ∷ [])
+    (both .before .before .tick-verdict .ensures) (both .before .tick-verdict2 .ensures) (both .first-of .ensures) in
+    first-of-due (cycleRules longestCycle (a .cycle)) (tickRule (a .cycle) (a .a) 0 ∷ tickRule (a .cycle) (a .b) 1 ∷ [])
+    (c .before .cycle-verdict .ensures) ticks (c .first-of2 .ensures)
 
 pub pair-verdict-spec : {M : Type 1} → statement M
 pair-verdict-spec =
     tie.close
-    (tie.spec cycle-verdict-requires enum-known-f enum-told returns returns-2 returns-3 returns-4)
+    (tie.spec
+    (λ c κs. search needs)
+    (λ c κs. search needs)
+    (λ c κs. search needs)
+    (λ c κs. search needs)
+    (λ c κs. search needs)
+    returns)

@@ -10,9 +10,6 @@ use Rattle.refusal.specs.Outcome.{firstDue}
 use Rattle.cycle.proofs.verdicts.reading_verdict.Statement.{statement}
 use Rattle.cycle.proofs.verdicts.reading_verdict.Tie as tie
 
-first-bad-requires : tie.Need-first-bad-requires
-first-bad-requires c κs = search needs
-
 returns : tie.Need-returns
 unfolding firstDue
 returns c =
@@ -28,4 +25,4 @@ returns-2 c =
     search tests
 
 pub reading-verdict-spec : {M : Type 1} → statement M
-reading-verdict-spec = tie.close (tie.spec first-bad-requires returns returns-2)
+reading-verdict-spec = tie.close (tie.spec (λ c κs. search needs) returns returns-2)

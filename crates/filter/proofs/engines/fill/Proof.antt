@@ -1,45 +1,47 @@
--- `filter::engines::fill` meets its contract. Assumes nothing.
-use mathlib.Core.Path.{_≡_}
-use native.Mathlib.Nat.{mul-comm}
-use native.Mathlib.Omega.{arith}
+-- `filter::engines::fill` meets its contract: each engine's contract is that of its case. Assumes nothing.
+use mathlib.Core.Path.{_≡_, subst}
+use lib.ListN.{length}
 use borrow.Author.Needs.{needs}
-use Rattle.shape.specs.declared.Shape.{Shape}
-use Rattle.level_sums.specs.Sums as level
-use Rattle.filter.specs.Calls.{need}
-use Rattle.filter.specs.declared.Engine.the-variants.{Level}
+use Rattle.lines.specs.Rows.{Fillable}
+use Rattle.filter.specs.Calls.{limit, need}
+use Rattle.filter.specs.declared.Engine.{Engine}
 use Rattle.filter.proofs.engines.fill.Statement.{statement}
 use Rattle.filter.proofs.engines.fill.Tie as tie
 
--- the level engine's need, written two ways
-level-need : (s : Shape) → level.need s ≡ need Level s
-level-need s = omega (arith, mul-comm (s .columns) (s .cycle))
+-- where the match began, from an engine's answer
+abbrev matched : tie.After-fill → tie.After-enum-told
+matched c = c .before .before .before
+
+abbrev matched-2 : tie.After-fill2 → tie.After-enum-told2
+matched-2 c = c .before .before .before
+
+-- and the start, from there
+abbrev start : tie.After-enum-told → tie.Start
+start c = c .before .before .before .before .before
+
+abbrev start-2 : tie.After-enum-told2 → tie.Start
+start-2 c = c .before .before .before .before .before
+
+by-engine : (s : tie.Start) {e : Engine} → s .args .engine ≡ e → let a = s .args in
+    Fillable (limit e) (need e) (a .shape) (a .image .now) (a .first) (a .end) (length (a .output .now)) (length (a .work .now))
+by-engine s is =
+    let a = s .args in
+    subst
+    (λ (e : Engine). Fillable (limit e) (need e) (a .shape) (a .image .now) (a .first) (a .end) (length (a .output .now)) (length (a .work .now)))
+    is
+    (s .pre)
 
 fill-requires : tie.Need-fill-requires
-fill-requires c κs =
-    let s = c .before .before .before .before .before .before .before in
-    let k = rw (c .before .before .enum-told .given .1) at (s .pre) in
-    record {
-      given = record { ready = k .given .ready; room = omega (arith, k .given .room, level-need (s .args .shape)) };
-      order = k .order;
-      within = k .within;
-      output-room = k .output-room;
-    }
+fill-requires c κs = let k = c .before .before in by-engine (start k) (k .enum-told .given .1)
 
 fill-requires-2 : tie.Need-fill-requires-2
-fill-requires-2 c κs = rw (c .before .before .enum-told2 .given .1) at (c .before .before .before .before .before .before .before .pre)
+fill-requires-2 c κs = let k = c .before .before in by-engine (start-2 k) (k .enum-told2 .given .1)
 
 returns : tie.Need-returns
-returns c =
-    let f = c .before .before .before .before in
-    let e = f .before .before .before .enum-told .given .1 in
-    let s = f .before .before .before .before .before .before .before .before in
-    let x = f .fill .ensures in
-    rw e (record { phases = x .phases; outside = rw (level-need (s .args .shape)) at (x .outside) })
+returns c = let f = c .before .before .before .before in rw (matched f .enum-told .given .1) (f .fill .ensures)
 
 returns-2 : tie.Need-returns-2
-returns-2 c =
-    let f = c .before .before .before .before in
-    rw (f .before .before .before .enum-told2 .given .1) (f .fill2 .ensures)
+returns-2 c = let f = c .before .before .before .before in rw (matched-2 f .enum-told2 .given .1) (f .fill2 .ensures)
 
 pub fill-spec : {M : Type 1} → statement M
 fill-spec =

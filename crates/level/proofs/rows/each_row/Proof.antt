@@ -8,23 +8,24 @@ use borrow.Author.Needs.{needs}
 use borrow.Rule.Slice.PartMut.{putMid}
 use lib.ListN.{length}
 use Rattle.lists.specs.Tabulate.{written}
-use Rattle.lists.proofs.Parts.{part-end}
 use Rattle.lists.proofs.Written.{Run, run-start, run-part, written-join, part-length}
 use Rattle.refusal.specs.Limits.{mostRows, mostColumns}
-use Rattle.shape.proofs.Accepted.{area-fits}
+use Rattle.shape.specs.Need.{levelNeed}
+use Rattle.shape.proofs.Accepted.{row-room}
 use Rattle.memory.specs.Memory.{Outside}
 use Rattle.memory.proofs.Memory.{outside-none, outside-more}
 use Rattle.window.specs.Phase.{phaseAt}
 use Rattle.lines.specs.Lines.{IsLine}
-use Rattle.level_sums.specs.Sums.{RowSums, need}
-use Rattle.level_sums.proofs.Spots.{accepted, given-kept}
+use Rattle.lines.proofs.Given.{given-kept}
+use Rattle.level_sums.specs.Sums.{RowSums}
+use Rattle.level_sums.proofs.Room.{accepted}
 use Rattle.level.proofs.RowLaws.{next-place}
 use Rattle.level.proofs.rows.each_row.Statement.{statement}
 use Rattle.level.proofs.rows.each_row.Tie as tie
 
 abbrev Inv-loop : tie.InvT-loop
 Inv-loop shape first end image output₀ work₀ table centres₀ columns start stop i₀ output work centres i = (first ≤ i) × (i < end) ×
-    RowSums shape image i work 0 (shape .columns) × Outside work₀ work 0 (need shape) ×
+    RowSums shape image i work 0 (shape .columns) × Outside work₀ work 0 (levelNeed shape) ×
     Run (phaseAt shape image) ((first + 1) * shape .columns) output₀ output ((i + 1) * shape .columns) × IsLine centres
 
 abbrev μ-loop : tie.MeasureT-loop
@@ -50,25 +51,20 @@ next-row c = c .before .before .before .before .before .before
 abbrev turn : tie.After-next-row Inv-loop μ-loop → tie.In-loop Inv-loop μ-loop
 turn c = c .before .before .before .before
 
--- a row of the image lies within the output
-inside : (s : tie.Start Inv-loop μ-loop) (i : ℕ) → i < s .args .shape .rows → let n = s .args .shape .columns in
-    (i * n + n ≤ length (s .args .output .now)) × (i * n + n ≤ mostRows * mostColumns)
-inside s i h =
-    let a = s .args in
-    let k = s .pre .0 .0 in
-    let room = part-end i (a .shape .rows) (a .shape .columns) h in
-    (omega (arith, room, k .output-room), omega (arith, room, area-fits (accepted (k .given))))
-
--- the first row's, and that of a turn
+-- the first row lies within the output, and that of a turn
 first-inside : (s : tie.Start Inv-loop μ-loop) → let n = s .args .shape .columns in
     (s .args .first * n + n ≤ length (s .args .output .now)) × (s .args .first * n + n ≤ mostRows * mostColumns)
-first-inside s = inside s (s .args .first) (omega (arith, s .pre .0 .1, s .pre .0 .0 .within))
+first-inside s =
+    let k = s .pre .0 .0 in
+    row-room (accepted (k .given)) (s .args .first) (length (s .args .output .now)) (omega (arith, s .pre .0 .1, k .within)) (k .output-room)
 
 next-inside : (c : tie.In-loop Inv-loop μ-loop) → let s = begin (first-row (c .before)) in let n = s .args .shape .columns in let i = c .before .loop .i in
     ((i + 1) * n + n ≤ length (s .args .output .now)) × ((i + 1) * n + n ≤ mostRows * mostColumns)
 next-inside c =
     let s = begin (first-row (c .before)) in
-    inside s (c .before .loop .i + 1) (omega (arith, c .loop-test .taken, s .pre .0 .0 .within))
+    let k = s .pre .0 .0 in
+    row-room (accepted (k .given)) (c .before .loop .i + 1) (length (s .args .output .now)) (omega (arith, c .loop-test .taken, k .within))
+    (k .output-room)
 
 -- the output with the first row
 opened : (c : tie.After-first-row Inv-loop μ-loop) → let a = begin c .args in let n = a .shape .columns in

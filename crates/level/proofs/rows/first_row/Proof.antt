@@ -5,17 +5,19 @@ use mathlib.Core.Path.{_≡_, sym, _∙_}
 use mathlib.Core.List.{List}
 use native.Mathlib.Omega.{arith}
 use borrow.Author.Needs.{needs}
-use Rattle.level.proofs.RowLaws.{ready-longest, Ripe, ripe, Row, row-none, row-turn, row-all, sums-more, changed-outside, holds-at}
-use Rattle.level_sums.proofs.Spots.{accepted, given-kept, column-room, need-fits}
-use Rattle.level_sums.specs.Sums.{windowSum, RowSums, need}
+use Rattle.shape.specs.Need.{levelNeed}
+use Rattle.level.proofs.RowLaws.{ready-longest, Ripe, ripe, RowSoFar, row-none, row-turn, row-all, sums-more, changed-outside, holds-at}
+use Rattle.level_sums.proofs.Room.{accepted, column-room, need-fits}
+use Rattle.level_sums.specs.Sums.{windowSum, RowSums}
 use Rattle.memory.specs.Memory.{Outside}
 use Rattle.memory.proofs.Memory.{outside-none, outside-more}
+use Rattle.lines.proofs.Given.{given-kept}
 use Rattle.level.proofs.rows.first_row.Statement.{statement}
 use Rattle.level.proofs.rows.first_row.Tie as tie
 
 abbrev Inv-loop : tie.InvT-loop
 Inv-loop shape image work₀ table centres i out₀ cycle columns j₀ base₀ work out j base = (j < columns) × (base ≡ j * shape .cycle) ×
-    RowSums shape image i work 0 (j + 1) × Outside work₀ work 0 (need shape) × Row shape image i out (j + 1)
+    RowSums shape image i work 0 (j + 1) × Outside work₀ work 0 (levelNeed shape) × RowSoFar shape image i out (j + 1)
 
 abbrev μ-loop : tie.MeasureT-loop
 μ-loop shape image work₀ table centres i out₀ cycle columns j₀ base₀ work out j base = columns - j

@@ -5,18 +5,20 @@ use mathlib.Core.Path.{_≡_, sym, _∙_, refl}
 use mathlib.Core.List.{List}
 use native.Mathlib.Omega.{arith}
 use borrow.Author.Needs.{needs}
-use Rattle.level.proofs.RowLaws.{ready-longest, Ripe, ripe, lowest-held, Row, row-none, row-turn, row-all, next-more, old-less, turned-outside, holds-at}
-use Rattle.level_sums.proofs.Spots.{accepted, given-kept, column-room, need-fits}
-use Rattle.level_sums.specs.Sums.{windowSum, rowChange, RowSums, need}
+use Rattle.shape.specs.Need.{levelNeed}
+use Rattle.level.proofs.RowLaws.{ready-longest, Ripe, ripe, lowest-held, RowSoFar, row-none, row-turn, row-all, next-more, old-less, turned-outside, holds-at}
+use Rattle.level_sums.proofs.Room.{accepted, column-room, need-fits}
+use Rattle.level_sums.specs.Sums.{windowSum, rowChange, RowSums}
 use Rattle.memory.specs.Memory.{Holds, Outside}
 use Rattle.memory.proofs.Memory.{outside-none, outside-more}
+use Rattle.lines.proofs.Given.{given-kept}
 use Rattle.level.proofs.rows.next_row.Statement.{statement}
 use Rattle.level.proofs.rows.next_row.Tie as tie
 
 abbrev Inv-loop : tie.InvT-loop
 Inv-loop shape image work₀ table centres i out₀ cycle columns change least j₀ base₀ work out j base = (j < columns) × (base ≡ j * shape .cycle) ×
     RowSums shape image (i + 1) work 0 (j + 1) × RowSums shape image i work (j + 1) columns × Holds work change (shape .cycle) (rowChange shape image i j) ×
-    Outside work₀ work 0 (need shape) × Row shape image (i + 1) out (j + 1)
+    Outside work₀ work 0 (levelNeed shape) × RowSoFar shape image (i + 1) out (j + 1)
 
 abbrev μ-loop : tie.MeasureT-loop
 μ-loop shape image work₀ table centres i out₀ cycle columns change least j₀ base₀ work out j base = columns - j

@@ -7,7 +7,7 @@ use lib.ListN.{length-replicate}
 use Rattle.lists.proofs.Written.{written-none}
 use Rattle.memory.proofs.Memory.{outside-none}
 use Rattle.lines.specs.Lines.{lineLength}
-use Rattle.level_sums.proofs.Spots.{accepted}
+use Rattle.level_sums.proofs.Room.{accepted}
 use Rattle.level.proofs.rows.with_table.Statement.{statement}
 use Rattle.level.proofs.rows.with_table.Tie as tie
 

@@ -4,10 +4,11 @@ use mathlib.Core.Path.{_≡_, _∙_}
 use native.Mathlib.Omega.{arith}
 use borrow.Author.Needs.{needs}
 use Rattle.level_sums.proofs.ColumnLaws.{block-none, block-all}
-use Rattle.level_sums.proofs.Spots.{accepted, given-kept}
+use Rattle.level_sums.proofs.Room.{accepted, columns-room}
 use Rattle.level_sums.specs.Sums.{windowSum, blockSum}
 use Rattle.memory.proofs.Memory.{changed-none, changed-again, changed-is}
 use Rattle.memory.specs.Memory.{Changed}
+use Rattle.lines.proofs.Given.{given-kept}
 use Rattle.level_sums.proofs.columns.first_column.Statement.{statement}
 use Rattle.level_sums.proofs.columns.first_column.Tie as tie
 
@@ -25,7 +26,7 @@ abbrev clear : tie.At-loop Inv-loop μ-loop → tie.After-clear Inv-loop μ-loop
 clear c = c .before .before .before
 
 clear-requires : tie.Need-clear-requires Inv-loop μ-loop
-clear-requires c κs = omega (arith, start c .pre .0 .0 .room)
+clear-requires c κs = omega (arith, columns-room (start c .pre .0 .0))
 
 loop-holds : tie.Need-loop-holds Inv-loop μ-loop
 loop-holds c =

@@ -6,7 +6,7 @@ use native.Mathlib.Omega.{arith}
 use borrow.Author.Needs.{needs}
 use Rattle.level_sums.proofs.Running.{turned-same, Pass, pass, pass-signed, pass-done}
 use Rattle.level_sums.proofs.ColumnLaws.{rowSum, window-signed, row-next}
-use Rattle.level_sums.proofs.Spots.{accepted, column-room}
+use Rattle.level_sums.proofs.Room.{accepted, column-room, columns-room}
 use Rattle.level_sums.specs.Sums.{windowSum, rowChange}
 use Rattle.memory.specs.Parts.{turned}
 use Rattle.memory.proofs.Memory.{both-after, holds-before}
@@ -44,7 +44,7 @@ turn-requires c κs =
     let g = s .pre .0 .0 in
     let t = s .pre .0 .1 in
     let k = accepted g in (
-      (omega (arith, column-room g 0 (k .columns-some)), omega (arith, g .room, f .first-change .ensures .len)),
+      (omega (arith, column-room g 0 (k .columns-some)), omega (arith, columns-room g, f .first-change .ensures .len)),
       (omega (arith, t .len, k), (t .small, pass-signed (passed f) (window-signed (a .shape) (a .image .now) g (a .i + 1) 0 (omega arith) (k .columns-some)))),
     )
 

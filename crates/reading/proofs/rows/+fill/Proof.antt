@@ -1,4 +1,5 @@
--- `reading::rows::fill` meets its contract. It never calls itself, so any measure will do. Assumes nothing.
+-- `reading::rows::fill` meets its contract. It never calls itself, so any measure will do. Assumes nothing. The other engine's `fill` has the
+-- same proof: its places are types of its own crate, made from its code, which no module that both engines use can name.
 use native.Mathlib.Omega.{arith}
 use borrow.Author.Needs.{needs}
 use Prim.Native.Nat.{ℕ, _<_}

@@ -5,15 +5,15 @@ use mathlib.Core.Path.{_≡_, sym, _∙_}
 use native.Mathlib.Omega.{arith}
 use borrow.Author.Needs.{needs}
 use lib.ListN.{length}
-use Rattle.lists.proofs.Parts.{part-end}
 use Rattle.lists.proofs.Written.{Run, run-start, run-part, part-length}
 use Rattle.refusal.specs.Limits.{longestCycle, mostRows, mostColumns}
-use Rattle.shape.proofs.Accepted.{Accepted, area-fits}
+use Rattle.shape.specs.Need.{readingNeed}
+use Rattle.shape.proofs.Accepted.{Accepted, row-room}
 use Rattle.memory.specs.Memory.{Outside}
 use Rattle.memory.proofs.Memory.{outside-none, outside-more}
 use Rattle.window.specs.Phase.{phaseAt}
-use Rattle.reading_planes.specs.Sums.{need}
-use Rattle.reading_planes.proofs.Sums.{sizes, given-kept}
+use Rattle.lines.proofs.Given.{given-kept}
+use Rattle.reading_planes.proofs.Sums.{sizes}
 use Rattle.reading_turns.specs.Scratch.{Scratch}
 use Rattle.reading.specs.Rows.{Lined, Kept}
 use Rattle.reading.proofs.Kept.{scratch-kept, lined-kept, kept-none, kept-next}
@@ -22,18 +22,24 @@ use Rattle.reading.proofs.rows.each_row.Tie as tie
 
 abbrev Inv-loop : tie.InvT-loop
 Inv-loop shape first end image output₀ work₀ own₀ entering₀ leaving₀ other₀ centre₀ change₀ step₀ least₀ nearest₀ columns i₀ kept₀ output work own entering leaving other centre change step least nearest i kept =
-    (first ≤ i) × (i ≤ end) × Kept shape image i kept work × Outside work₀ work 0 (need shape)
+    (first ≤ i) × (i ≤ end) × Kept shape image i kept work × Outside work₀ work 0 (readingNeed shape)
     × Run (phaseAt shape image) (first * shape .columns) output₀ output (i * shape .columns) × Lined own entering leaving other centre × Scratch change step least nearest
 
 abbrev μ-loop : tie.MeasureT-loop
 μ-loop shape first end image output₀ work₀ own₀ entering₀ leaving₀ other₀ centre₀ change₀ step₀ least₀ nearest₀ columns i₀ kept₀ output work own entering leaving other centre change step least nearest i kept = end - i
 
 -- back to places that the answers go by
+abbrev entry : tie.After-struct-known Inv-loop μ-loop → tie.Start Inv-loop μ-loop
+entry c = c .before .before .before .before .before .before .before .before .before .before .before .before .before
+
 abbrev start : tie.At-loop Inv-loop μ-loop → tie.Start Inv-loop μ-loop
-start c = c .before .before .before .before .before .before .before .before .before .before .before .before .before .before
+start c = entry (c .before)
+
+abbrev lent : tie.After-one-row-arg10 Inv-loop μ-loop → tie.In-loop Inv-loop μ-loop
+lent c = c .before .before .before .before .before .before .before .before .before .before
 
 abbrev turn : tie.After-one-row Inv-loop μ-loop → tie.In-loop Inv-loop μ-loop
-turn c = c .before .before .before .before .before .before .before .before .before .before .before .before
+turn c = lent (c .before .before)
 
 abbrev done : tie.After-struct-known2 Inv-loop μ-loop → tie.After-one-row Inv-loop μ-loop
 done c = c .before .before .before .before .before .before .before .before .before .before .before .before .before .before .before .before .before .before .before .before .before .before .before
@@ -46,12 +52,12 @@ inside : (c : tie.In-loop Inv-loop μ-loop) → let a = start (c .before) .args 
     (i * n + n ≤ length (a .output .now)) × (i * n + n ≤ mostRows * mostColumns)
 inside c =
     let s = start (c .before) in
-    let room = part-end (c .before .loop .next) (s .args .shape .rows) (s .args .shape .columns) (omega (arith, c .loop-test .taken, s .pre .0 .within)) in
-    (omega (arith, room, s .pre .0 .output-room), omega (arith, room, area-fits (accepted s)))
+    row-room (accepted s) (c .before .loop .next) (length (s .args .output .now)) (omega (arith, c .loop-test .taken, s .pre .0 .within))
+    (s .pre .0 .output-room)
 
 loop-holds : tie.Need-loop-holds Inv-loop μ-loop
 loop-holds c =
-    let s = c .before .before .before .before .before .before .before .before .before .before .before .before .before in
+    let s = entry c in
     (omega arith, s .pre .0 .order, kept-none (omega (arith, accepted s .mask-rows-odd)), outside-none, run-start, s .pre .1 .0, s .pre .1 .1)
 
 mul-a : tie.Need-mul-a Inv-loop μ-loop
@@ -61,16 +67,16 @@ add-b : tie.Need-add-b Inv-loop μ-loop
 add-b c = omega (arith, inside c)
 
 mul-one-row : tie.Need-mul-one-row Inv-loop μ-loop
-mul-one-row c = omega (arith, inside (c .before .before .before .before .before .before .before .before .before .before))
+mul-one-row c = omega (arith, inside (lent c))
 
 part-one-row-end : tie.Need-part-one-row-end Inv-loop μ-loop
 part-one-row-end c =
-    let t = c .before .before .before .before .before .before .before .before .before .before in
+    let t = lent c in
     omega (arith, inside t, t .before .loop .inv .4 .len)
 
 one-row-requires : tie.Need-one-row-requires Inv-loop μ-loop
 one-row-requires c κs =
-    let t = c .before .before .before .before .before .before .before .before .before .before .before in
+    let t = lent (c .before) in
     let s = start (t .before) in
     let l = t .before .loop in
     let n = s .args .shape .columns in (

@@ -7,39 +7,53 @@ use borrow.Author.Needs.{needs}
 use Rattle.refusal.specs.Limits.{longestCycle}
 use Rattle.shape.proofs.Accepted.{Accepted}
 use Rattle.memory.proofs.Memory.{outside-more}
-use Rattle.reading_planes.proofs.Sums.{sizes, given-kept}
+use Rattle.lines.proofs.Given.{given-kept}
+use Rattle.reading_planes.proofs.Sums.{sizes}
 use Rattle.reading_choice.proofs.RowLaws.{row-unweighed, row-ranks, row-settled}
 use Rattle.reading.proofs.Kept.{scratch-kept}
 use Rattle.reading.proofs.rows.one_row.Statement.{statement}
 use Rattle.reading.proofs.rows.one_row.Tie as tie
 
 -- back to places that the answers go by
+abbrev begun : tie.After-centres-arg → tie.Start
+begun c = c .before .before .before .before .before .before .before .before .before .before .before .before .before .before
+
 abbrev start : tie.After-centres → tie.Start
-start c = c .before .before .before .before .before .before .before .before .before .before .before .before .before .before .before
+start c = begun (c .before)
 
 abbrev centred : tie.After-reset → tie.After-centres
 centred c = c .before .before .before .before .before
 
-abbrev cleared : tie.After-pad → tie.After-reset
-cleared c = c .before .before .before .before .before .before .before
+abbrev cleared : tie.After-struct-known2 → tie.After-reset
+cleared c = c .before .before .before .before .before
 
-abbrev padded : tie.After-carry-rows → tie.After-pad
-padded c = c .before .before .before .before .before .before .before .before .before .before .before .before
+abbrev padded : tie.After-carry-rows-arg9 → tie.After-pad
+padded c = c .before .before .before .before .before .before .before .before .before .before .before
 
-abbrev carried : tie.After-build-rows → tie.After-carry-rows
-carried c = c .before .before .before .before .before .before .before .before .before .before .before .before .before .before .before .before .before .before .before .before .before .before .before .before .before
+abbrev carried : tie.After-build-rows-arg10 → tie.After-carry-rows
+carried c =
+    c .before .before .before .before .before .before .before .before .before .before .before .before
+    .before .before .before .before .before .before .before .before .before .before .before .before
 
-abbrev built : tie.After-ticks → tie.After-build-rows
-built c = c .before .before .before .before .before .before .before .before .before .before .before .before .before .before .before .before .before .before .before .before
+abbrev built : tie.After-ticks-arg3 → tie.After-build-rows
+built c =
+    c .before .before .before .before .before .before .before .before .before .before .before .before
+    .before .before .before .before .before .before .before
+
+abbrev reset : tie.After-carry-rows → tie.After-reset
+reset c = cleared (padded (c .before) .before .before)
 
 abbrev first : tie.After-carry-rows → tie.Start
-first c = start (centred (cleared (padded c)))
+first c = start (centred (reset c))
+
+abbrev ended : tie.After-slice-known31 → tie.After-build-rows
+ended c = built (c .before .before .before)
 
 accepted : (s : tie.Start) → Accepted longestCycle (s .args .shape)
 accepted s = sizes (s .args .shape) (s .pre .0 .0 .ready .shape)
 
 centres-requires : tie.Need-centres-requires
-centres-requires c κs = let s = c .before .before .before .before .before .before .before .before .before .before .before .before .before .before in (s .pre .0 .0 .ready, s .pre .0 .1, s .pre .1 .0 .centres-line)
+centres-requires c κs = let s = begun c in (s .pre .0 .0 .ready, s .pre .0 .1, s .pre .1 .0 .centres-line)
 
 reset-requires : tie.Need-reset-requires
 reset-requires c κs =
@@ -49,21 +63,21 @@ reset-requires c κs =
 
 add-pad : tie.Need-add-pad
 add-pad c =
-    let s = start (centred (c .before .before .before .before .before)) in
+    let s = start (centred (cleared c)) in
     omega (arith, s .pre .0 .1, accepted s .rows-fit, accepted s .mask-rows-fit)
 
 sub-pad : tie.Need-sub-pad
-sub-pad c = let s = start (centred (c .before .before .before .before .before)) in omega (arith, accepted s .mask-rows-odd)
+sub-pad c = let s = start (centred (cleared c)) in omega (arith, accepted s .mask-rows-odd)
 
 pad-requires : tie.Need-pad-requires
 pad-requires c κs =
-    let s = start (centred (c .before .before .before .before .before .before)) in
+    let s = start (centred (cleared (c .before))) in
     (s .pre .0 .0 .ready, omega (arith, s .pre .0 .1, accepted s .mask-rows-odd), s .pre .1 .0 .last-line)
 
 carry-rows-requires : tie.Need-carry-rows-requires
 carry-rows-requires c κs =
-    let p = c .before .before .before .before .before .before .before .before .before .before .before in
-    let r = cleared p in
+    let p = padded c in
+    let r = cleared (p .before .before) in
     let s = start (centred r) in
     let lines = s .pre .1 .0 in
     let scratch = s .pre .1 .1 in (
@@ -79,10 +93,10 @@ carry-rows-requires c κs =
 
 build-rows-requires : tie.Need-build-rows-requires
 build-rows-requires c κs =
-    let d = c .before .before .before .before .before .before .before .before .before .before .before .before .before .before .before .before .before .before .before .before .before .before .before .before in
-    let p = padded d in
-    let r = cleared p in
-    let s = start (centred r) in
+    let d = carried c in
+    let p = padded (d .before) in
+    let r = reset d in
+    let s = first d in
     let lines = s .pre .1 .0 in
     let scratch = s .pre .1 .1 in
     let x = d .carry-rows .ensures .0 in
@@ -103,60 +117,58 @@ build-rows-requires c κs =
 
 ticks-requires : tie.Need-ticks-requires
 ticks-requires c κs =
-    let e = c .before .before .before .before .before .before .before .before .before .before .before .before .before .before .before .before .before .before .before in
-    let d = carried e in
+    let e = built c in
+    let d = carried (e .before) in
     let s = first d in
-    let r = cleared (padded d) in
+    let r = reset d in
     let centres = centred r .centres .ensures in
     let near = e .build-rows .kept .1 .1 .1 .1 .1 .1 .1 .1 .1 .1 .1 .1 .1 .0 ∙ d .carry-rows .kept .1 .1 .1 .1 .1 .1 .1 .1 .1 .1 .1 .1 .0
     ∙ r .reset .ensures .1 .len ∙ s .pre .1 .1 .nearest-line in (
-      (accepted s .cycle-fits, omega (arith, accepted s .columns-fit, centres .len), omega (arith, accepted s .columns-fit, near), omega (arith, s .pre .0 .3)),
+      (
+        accepted s .cycle-fits,
+        omega (arith, accepted s .columns-fit, centres .len),
+        omega (arith, accepted s .columns-fit, near),
+        omega (arith, s .pre .0 .3),
+      ),
       row-ranks (s .pre .0 .0 .ready) (s .pre .0 .1) centres (e .build-rows .ensures .1),
     )
 
-same-length : tie.Need-same-length
-same-length c = let e = built (c .before .before) in e .build-rows .ensures .0 .1 .len ∙ carried e .carry-rows .ensures .0 .1 .len
-
-same-length-2 : tie.Need-same-length-2
-same-length-2 c = let e = built (c .before .before) in e .build-rows .kept .1 .1 .1 .1 .1 .0 ∙ carried e .carry-rows .kept .1 .1 .1 .1 .1 .0
-
-same-length-3 : tie.Need-same-length-3
-same-length-3 c = let d = carried (built (c .before .before)) in padded d .pad .ensures .len ∙ sym (first d .pre .1 .0 .last-line)
-
-same-length-4 : tie.Need-same-length-4
-same-length-4 c = let e = built (c .before .before) in e .build-rows .kept .1 .1 .1 .1 .1 .1 .1 .0 ∙ carried e .carry-rows .kept .1 .1 .1 .1 .1 .1 .1 .0
-
-same-length-5 : tie.Need-same-length-5
-same-length-5 c = built (c .before .before) .build-rows .kept .1 .1 .1 .1 .1 .1 .1 .1 .0
-
-same-length-6 : tie.Need-same-length-6
-same-length-6 c = let d = carried (built (c .before .before)) in centred (cleared (padded d)) .centres .ensures .len ∙ sym (first d .pre .1 .0 .centres-line)
-
-same-length-7 : tie.Need-same-length-7
-same-length-7 c = let e = built (c .before .before) in e .build-rows .kept .1 .1 .1 .1 .1 .1 .1 .1 .1 .1 .0 ∙ carried e .carry-rows .kept .1 .1 .1 .1 .1 .1 .1 .1 .1 .0
-
-same-length-8 : tie.Need-same-length-8
-same-length-8 c = let e = built (c .before .before) in e .build-rows .kept .1 .1 .1 .1 .1 .1 .1 .1 .1 .1 .1 .0 ∙ carried e .carry-rows .kept .1 .1 .1 .1 .1 .1 .1 .1 .1 .1 .0
-
-same-length-9 : tie.Need-same-length-9
-same-length-9 c = let e = built (c .before .before) in e .build-rows .kept .1 .1 .1 .1 .1 .1 .1 .1 .1 .1 .1 .1 .0 ∙ carried e .carry-rows .kept .1 .1 .1 .1 .1 .1 .1 .1 .1 .1 .1 .0 ∙ cleared (padded (carried e)) .reset .ensures .0 .len
-
-same-length-10 : tie.Need-same-length-10
-same-length-10 c = let e = built (c .before .before) in e .build-rows .kept .1 .1 .1 .1 .1 .1 .1 .1 .1 .1 .1 .1 .1 .0 ∙ carried e .carry-rows .kept .1 .1 .1 .1 .1 .1 .1 .1 .1 .1 .1 .1 .0 ∙ cleared (padded (carried e)) .reset .ensures .1 .len
-
-same-length-11 : tie.Need-same-length-11
-same-length-11 c = c .before .before .ticks .ensures .len
-
 returns : tie.Need-returns
 returns c =
-    let t = c .before .before in
-    let e = built t in
-    let d = carried e in
+    let e = ended c in
+    let d = carried (e .before) in
     let s = first d in
     let x = e .build-rows .ensures .0 in (
-      row-settled (s .pre .0 .0 .ready) (s .pre .0 .1) (centred (cleared (padded d)) .centres .ensures) (s .pre .0 .3) (e .build-rows .ensures .1) (t .ticks .ensures),
+      row-settled (s .pre .0 .0 .ready) (s .pre .0 .1) (centred (reset d) .centres .ensures) (s .pre .0 .3) (e .build-rows .ensures .1)
+          (c .before .before .ticks .ensures),
       (x .0, outside-more (d .carry-rows .ensures .0 .1) (x .1)),
     )
+
+same-change : tie.Need-same-length-7
+same-change c =
+    let e = ended c in
+    let d = carried (e .before) in
+    e .build-rows .kept .1 .1 .1 .1 .1 .1 .1 .1 .1 .1 .0 ∙ d .carry-rows .kept .1 .1 .1 .1 .1 .1 .1 .1 .1 .0
+
+same-step : tie.Need-same-length-8
+same-step c =
+    let e = ended c in
+    let d = carried (e .before) in
+    e .build-rows .kept .1 .1 .1 .1 .1 .1 .1 .1 .1 .1 .1 .0 ∙ d .carry-rows .kept .1 .1 .1 .1 .1 .1 .1 .1 .1 .1 .0
+
+same-least : tie.Need-same-length-9
+same-least c =
+    let e = ended c in
+    let d = carried (e .before) in
+    e .build-rows .kept .1 .1 .1 .1 .1 .1 .1 .1 .1 .1 .1 .1 .0 ∙ d .carry-rows .kept .1 .1 .1 .1 .1 .1 .1 .1 .1 .1 .1 .0
+    ∙ reset d .reset .ensures .0 .len
+
+same-nearest : tie.Need-same-length-10
+same-nearest c =
+    let e = ended c in
+    let d = carried (e .before) in
+    e .build-rows .kept .1 .1 .1 .1 .1 .1 .1 .1 .1 .1 .1 .1 .1 .0 ∙ d .carry-rows .kept .1 .1 .1 .1 .1 .1 .1 .1 .1 .1 .1 .1 .0
+    ∙ reset d .reset .ensures .1 .len
 
 pub one-row-spec : {M : Type 1} → statement M
 one-row-spec =
@@ -172,15 +184,15 @@ one-row-spec =
     carry-rows-requires
     build-rows-requires
     ticks-requires
-    same-length
-    same-length-2
-    same-length-3
-    same-length-4
-    same-length-5
-    same-length-6
-    same-length-7
-    same-length-8
-    same-length-9
-    same-length-10
-    same-length-11
+    (λ c. let e = ended c in e .build-rows .ensures .0 .1 .len ∙ carried (e .before) .carry-rows .ensures .0 .1 .len)
+    (λ c. let e = ended c in e .build-rows .kept .1 .1 .1 .1 .1 .0 ∙ carried (e .before) .carry-rows .kept .1 .1 .1 .1 .1 .0)
+    (λ c. let d = carried (ended c .before) in padded (d .before) .pad .ensures .len ∙ sym (first d .pre .1 .0 .last-line))
+    (λ c. let e = ended c in e .build-rows .kept .1 .1 .1 .1 .1 .1 .1 .0 ∙ carried (e .before) .carry-rows .kept .1 .1 .1 .1 .1 .1 .1 .0)
+    (λ c. ended c .build-rows .kept .1 .1 .1 .1 .1 .1 .1 .1 .0)
+    (λ c. let d = carried (ended c .before) in centred (reset d) .centres .ensures .len ∙ sym (first d .pre .1 .0 .centres-line))
+    same-change
+    same-step
+    same-least
+    same-nearest
+    (λ c. c .before .before .ticks .ensures .len)
     returns)

@@ -7,7 +7,7 @@ use borrow.Author.Needs.{needs}
 use Rattle.refusal.specs.Limits.{longestCycle}
 use Rattle.shape.proofs.Accepted.{Accepted}
 use Rattle.lines.specs.Lines.{IsLine, lineLength, paddedLength}
-use Rattle.reading_planes.proofs.Sums.{sizes, row-inside}
+use Rattle.reading_planes.proofs.Sums.{sizes, line-room, row-inside}
 use Rattle.reading_sums.proofs.Turns.{Rows, rows-none, rows-one, rows-two, rows-counted}
 use Rattle.reading_sums.proofs.build.count_rows.Statement.{statement}
 use Rattle.reading_sums.proofs.build.count_rows.Tie as tie
@@ -53,7 +53,7 @@ accepted s = sizes (s .args .shape) (s .pre .0 .0 .shape)
 
 -- what the lines have room for, and the padded row
 room : (s : tie.Start Inv-loop μ-loop) → s .args .shape .columns + s .args .shape .«mask_columns» ≤ lineLength
-room s = omega (arith, accepted s .columns-fit, accepted s .mask-columns-fit)
+room s = line-room (s .args .shape) (s .pre .0 .0 .shape)
 
 inside : (s : tie.Start Inv-loop μ-loop)
     → s .args .at + (s .args .shape .columns + (s .args .shape .«mask_columns» - 1 - (s .args .start + s .args .at))) ≤ paddedLength (s .args .shape)

@@ -5,45 +5,43 @@ use mathlib.Core.Path.{_≡_, refl, ap, sym, _∙_}
 use native.Mathlib.Omega.{arith}
 use borrow.Author.Needs.{needs}
 use lib.ListN.{getD}
-use Rattle.refusal.specs.Limits.{longestCycle}
-use Rattle.shape.proofs.Accepted.{Accepted}
 use Rattle.memory.proofs.Memory.{changed-is}
 use Rattle.lines.specs.Lines.{lineLength}
 use Rattle.reading_lines.specs.Passes.{ofLine}
-use Rattle.reading_planes.proofs.Sums.{sizes}
+use Rattle.reading_planes.proofs.Sums.{sizes, line-room}
 use Rattle.reading_planes.proofs.Sweeps.{behind-more}
 use Rattle.reading_sums.proofs.Turns.{counted-steps}
 use Rattle.reading_sums.proofs.carry.carry_on.Statement.{statement}
 use Rattle.reading_sums.proofs.carry.carry_on.Tie as tie
 
 -- back to places that the answers go by
+abbrev begun : tie.After-struct-known4 → tie.Start
+begun c = c .before .before .before .before .before .before .before .before .before .before
+
 abbrev start : tie.After-steps → tie.Start
-start c = c .before .before .before .before .before .before .before .before .before .before .before .before
+start c = begun (c .before .before)
 
 abbrev measured : tie.After-move-add → tie.After-steps
 measured c = c .before .before .before .before .before .before
 
-abbrev moved : tie.After-move-on → tie.After-move-add
-moved c = c .before .before .before .before .before .before .before
-
-accepted : (s : tie.Start) → Accepted longestCycle (s .args .shape)
-accepted s = sizes (s .args .shape) (s .pre .0 .0)
+abbrev moved : tie.After-move-on-arg → tie.After-move-add
+moved c = c .before .before .before .before .before
 
 -- what the lines have room for
 room : (s : tie.Start) → s .args .shape .columns + s .args .shape .«mask_columns» ≤ lineLength
-room s = omega (arith, accepted s .columns-fit, accepted s .mask-columns-fit)
+room s = line-room (s .args .shape) (s .pre .0 .0)
 
 cast-steps : tie.Need-cast-steps
-cast-steps c = omega (arith, accepted (c .before .before .before .before .before .before .before .before .before .before) .cycle-fits)
+cast-steps c = let s = begun c in omega (arith, sizes (s .args .shape) (s .pre .0 .0) .cycle-fits)
 
 steps-requires : tie.Need-steps-requires
 steps-requires c κs =
-    let s = c .before .before .before .before .before .before .before .before .before .before .before in
+    let s = begun (c .before) in
     let n = room s in (
-      omega (arith, n, s .pre .1 .0 .0, s .pre .0 .1),
-      omega (arith, n, s .pre .1 .0 .1, s .pre .0 .1),
-      omega (arith, n, s .pre .1 .0 .2, s .pre .0 .1),
-      omega (arith, n, s .pre .1 .0 .4, s .pre .0 .1),
+      omega (arith, n, s .pre .1 .0 .own-line, s .pre .0 .1),
+      omega (arith, n, s .pre .1 .0 .entering-line, s .pre .0 .1),
+      omega (arith, n, s .pre .1 .0 .leaving-line, s .pre .0 .1),
+      omega (arith, n, s .pre .1 .0 .step-line, s .pre .0 .1),
     )
 
 move-add-requires : tie.Need-move-add-requires
@@ -51,28 +49,28 @@ move-add-requires c κs =
     let e = c .before .before .before .before .before in
     let s = start e in
     let n = room s in
-    (omega (arith, n, s .pre .1 .0 .3, s .pre .0 .1), omega (arith, n, e .steps .ensures .len, s .pre .1 .0 .4), s .pre .0 .2)
+    (omega (arith, n, s .pre .1 .0 .change-line, s .pre .0 .1), omega (arith, n, e .steps .ensures .len, s .pre .1 .0 .step-line), s .pre .0 .2)
 
 add-move-on : tie.Need-add-move-on
-add-move-on c = let s = start (measured (c .before .before .before .before .before)) in omega (arith, room s, s .pre .0 .1)
+add-move-on c = let s = start (measured (moved c)) in omega (arith, room s, s .pre .0 .1)
 
 add-move-on-2 : tie.Need-add-move-on-2
-add-move-on-2 c = let s = start (measured (c .before .before .before .before .before)) in omega (arith, room s, s .pre .0 .1)
+add-move-on-2 c = let s = start (measured (moved c)) in omega (arith, room s, s .pre .0 .1)
 
 move-on-requires : tie.Need-move-on-requires
 move-on-requires c κs =
-    let d = c .before .before .before .before .before .before in
+    let d = moved (c .before) in
     let e = measured d in
     let s = start e in
     let n = room s in (
-      omega (arith, n, d .move-add .ensures .0 .len, s .pre .1 .0 .3, s .pre .0 .1),
-      omega (arith, n, e .steps .ensures .len, s .pre .1 .0 .4, s .pre .0 .1),
+      omega (arith, n, d .move-add .ensures .0 .len, s .pre .1 .0 .change-line, s .pre .0 .1),
+      omega (arith, n, e .steps .ensures .len, s .pre .1 .0 .step-line, s .pre .0 .1),
     )
 
 returns : tie.Need-returns
 returns c =
     let o = c .before .before in
-    let d = moved o in
+    let d = moved (o .before .before) in
     let e = measured d in
     let s = start e in
     let a = s .args in
@@ -85,7 +83,8 @@ returns c =
       behind,
       changed-is _ (d .move-add .ensures .1) (λ j h.
           ap (λ (x : ℕ). (getD (a .work .now) (a .plane + j) 0 + x) % 2 ^ 32)
-          (sym (d .move-add .ensures .0 .holds j h) ∙ sym (o .move-on .ensures .before (a .l + 1 + j) (omega arith)) ∙ behind .holds j (omega (arith, s .pre .0 .1)))),
+          (sym (d .move-add .ensures .0 .holds j h) ∙ sym (o .move-on .ensures .before (a .l + 1 + j) (omega arith))
+          ∙ behind .holds j (omega (arith, s .pre .0 .1)))),
     )
 
 pub carry-on-spec : {M : Type 1} → statement M

@@ -1,0 +1,18 @@
+-- `record_read::body::trailing_verdict` meets its contract. Assumes nothing.
+use Rattle.refusal.specs.Outcome.{firstDue}
+use Rattle.refusal.proofs.Outcome.{tests}
+use Rattle.record_read.proofs.body.trailing_verdict.Statement.{statement}
+use Rattle.record_read.proofs.body.trailing_verdict.Tie as tie
+
+returns : tie.Need-returns
+unfolding firstDue
+returns c = search tests
+
+returns-2 : tie.Need-returns-2
+unfolding firstDue
+returns-2 c = search tests
+
+pub trailing-verdict-spec : {M : Type 1} → statement M
+trailing-verdict-spec = tie.close (tie.spec
+    returns
+    returns-2)
