@@ -28,9 +28,9 @@
  * The place is 0 where none is given. Of several refusals the first in the order of the call's tests is told: rising
  * for all calls but circle_median_read, which tests field by field.
  *
- * Stack, in bytes, measured on x86-64: an accepted circle_median_level takes 54,152 and an accepted
+ * Stack, in bytes, measured on x86-64: an accepted circle_median_level takes 54,216 and an accepted
  * circle_median_reading 210,816, since their tables and lines are local; every other call, and every call that is
- * refused, takes at most 241.
+ * refused, takes at most 352.
  */
 #ifndef CIRCLE_MEDIAN_H
 #define CIRCLE_MEDIAN_H
