@@ -8,7 +8,9 @@
  * for its type, and that as many elements as its length says may be read, or written where the pointer is not to
  * const. Memory that a call writes may not overlap that of any other argument. Lengths count elements, not bytes.
  *
- * cycle is the paper's C, rows and columns its M and N, mask_rows and mask_columns its R and T.
+ * cycle is the paper's C, rows and columns its M and N, mask_rows and mask_columns its R and T. A reading in an image,
+ * a row or a record is a tick, from 0 to cycle - 1, or it is CIRCLE_MEDIAN_SILENT, on every cycle: its wake was not
+ * heard. circle_median_distance, step and slot take no silent argument.
  *
  *  number  why                                                                               place
  *       1  the cycle is 0, or longer than the call takes: 65,535; 4,096 for the level engine
@@ -19,7 +21,7 @@
  *       6  the input, or the readings to write, are not rows * columns
  *       7  an output, readings or bytes buffer is too short
  *       8  the work memory is too short
- *       9  a reading, or an argument, is not below the cycle                                 its index
+ *       9  a reading is neither below the cycle nor silent, or an argument not below it      its index
  *      10  the record ends within a field                                                    the field's offset
  *      11  a tag is not the one due                                                          its offset
  *      12  a length is not the one due                                                       its tag's offset
@@ -28,8 +30,8 @@
  * The place is 0 where none is given. Of several refusals the first in the order of the call's tests is told: rising
  * for all calls but circle_median_read, which tests field by field.
  *
- * Stack, in bytes, measured on x86-64: an accepted circle_median_level takes 54,216 and an accepted
- * circle_median_reading 210,816, since their tables and lines are local; every other call, and every call that is
+ * Stack, in bytes, measured on x86-64: an accepted circle_median_level takes 85,168 and an accepted
+ * circle_median_reading 213,512, since their tables and lines are local; every other call, and every call that is
  * refused, takes at most 352.
  */
 #ifndef CIRCLE_MEDIAN_H
@@ -37,6 +39,9 @@
 
 #include <stddef.h>
 #include <stdint.h>
+
+/* The reading of a wake that was not heard. No cycle has it as a tick: it has no distance and adds to no sum. */
+#define CIRCLE_MEDIAN_SILENT ((uint16_t)65535)
 
 #ifdef __cplusplus
 extern "C" {
@@ -69,7 +74,11 @@ typedef struct circle_median_record_answer {
  *
  * input has rows * columns readings, row by row; output at least as many numbers, of which those of the range are
  * written, each at its own spot of the whole image; work at least cycle * (columns + 1) numbers, which are zero at
- * the end. Whatever output and work held before makes no difference. 1 to 9 are tested. */
+ * the end. Whatever output and work held before makes no difference. 1 to 9 are tested.
+ *
+ * A spot gets the heard reading of its window that has the least sum of distances to them all; of several the one
+ * nearest to the centre, and of two the one ahead of it. If the centre is silent, the first heard reading of the
+ * window, row by row, takes its part; if none is heard, the spot gets CIRCLE_MEDIAN_SILENT. */
 circle_median_answer circle_median_level(
     uint32_t cycle, uint32_t rows, uint32_t columns, uint32_t mask_rows, uint32_t mask_columns,
     uint32_t first, uint32_t end,
@@ -95,18 +104,19 @@ circle_median_value_answer circle_median_step(uint32_t cycle, uint16_t a, uint16
 /* The value is 1 if tick p is in the slot that starts at s and is w wide, both ends included, and else 0. */
 circle_median_value_answer circle_median_slot(uint32_t cycle, uint16_t p, uint16_t s, uint16_t w);
 
-/* The value is the drift of a row: the sum of the signed steps from each reading to the next. 1, 2 and 9 are tested. */
+/* The value is the drift of a row: the sum of the signed steps from each heard reading to the next one heard, whatever
+ * is silent between them; 0 if none or one is heard. 1, 2 and 9 are tested. */
 circle_median_value_answer circle_median_drift(uint32_t cycle, const uint16_t *row, size_t row_length);
 
-/* Writes a record to the front of bytes; the value is its length, 22 + rows * (3 + 2 * columns).
- * 1, 2, 3, 4, 6, 7 and 9 are tested. */
+/* Writes a record to the front of bytes; the value is its length, 22 + rows * (3 + 2 * columns). A silent reading is
+ * written as FF FF. 1, 2, 3, 4, 6, 7 and 9 are tested. */
 circle_median_value_answer circle_median_write(
     uint32_t cycle, uint32_t rows, uint32_t columns, uint32_t mask_rows, uint32_t mask_columns,
     const uint16_t *readings, size_t readings_length,
     uint8_t *bytes, size_t bytes_length);
 
-/* Reads a record, which must fill all of bytes; its rows * columns readings stand at the front of readings. Any
- * refusal but 5, 6 and 8 can come. */
+/* Reads a record, which must fill all of bytes; its rows * columns readings stand at the front of readings, FF FF as
+ * silent on every cycle. Any refusal but 5, 6 and 8 can come. */
 circle_median_record_answer circle_median_read(
     const uint8_t *bytes, size_t bytes_length,
     uint16_t *readings, size_t readings_length);

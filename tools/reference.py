@@ -1,10 +1,20 @@
-"""Document 01 in Python, by direct sums: no running sums, and nothing shared with the crates.
+"""Document 01, with document 02's silent wakes (T-01), in Python, by direct sums: no running sums, and nothing shared with the
+crates.
 
-The stored outputs of the test programs are made with it. A call returns its result, or a Refusal.
+The stored outputs of the test programs are made with it. A call returns its result, or a Refusal. A reading, in an image, a
+row or a record, is a tick of the cycle or silent; an argument of distance, step or slot is a tick.
 """
 from collections import namedtuple
 
 Refusal = namedtuple("Refusal", "number place")
+
+# The reading of a wake that was not heard. No cycle has it as a tick.
+SILENT = 65535
+
+
+def heard(readings):
+    """The readings that were heard, in their order."""
+    return [x for x in readings if x != SILENT]
 
 
 def distance(c, a, b):
@@ -18,7 +28,9 @@ def step(c, a, b):
 
 
 def drift(c, row):
-    return sum(step(c, a, b) for a, b in zip(row, row[1:]))
+    """The steps from each heard reading to the next one heard, whatever is silent between them; 0 with none or one heard."""
+    ticks = heard(row)
+    return sum(step(c, a, b) for a, b in zip(ticks, ticks[1:]))
 
 
 def in_slot(c, p, s, w):
@@ -26,7 +38,7 @@ def in_slot(c, p, s, w):
 
 
 def arguments(c, *ticks):
-    """The tests of distance, step and slot: 1, then 9 with the argument's place."""
+    """The tests of distance, step and slot: 1, then 9 with the argument's place. A silent reading is no tick."""
     if not 1 <= c <= 65535:
         return Refusal(1, 0)
     for k, x in enumerate(ticks):
@@ -58,8 +70,8 @@ def drift_call(c, row):
 
 
 def reading_fault(c, readings):
-    """The index of the first reading that is none, or None."""
-    return next((k for k, x in enumerate(readings) if x >= c), None)
+    """The index of the first that is neither a tick nor silent, or None."""
+    return next((k for k, x in enumerate(readings) if x >= c and x != SILENT), None)
 
 
 def size_fault(m, n):
@@ -179,24 +191,36 @@ def mirrored(size, x):
 
 
 def window(shape, image, i, j):
+    """The readings of a window, row by row, repeats counted."""
     _, m, n, r, t = shape
     rows = [mirrored(m, i + k) for k in range(-(r // 2), r // 2 + 1)]
     columns = [mirrored(n, j + k) for k in range(-(t // 2), t // 2 + 1)]
     return [image[a * n + b] for a in rows for b in columns]
 
 
-def summed(c, x, readings):
-    return sum(distance(c, x, y) for y in readings)
+def summed(c, x, ticks):
+    return sum(distance(c, x, y) for y in ticks)
 
 
-def chosen(c, centre, readings):
-    """Among the ticks of least sum, the one nearest to the centre; of two, the one ahead of it."""
-    sums = [summed(c, x, readings) for x in range(c)]
-    least = min(sums)
-    equals = [x for x in range(c) if sums[x] == least]
+def chosen(c, centre, ticks, among):
+    """Among some ticks those of least sum, and of these the one nearest to the centre; of two, the one ahead of it."""
+    sums = {x: summed(c, x, ticks) for x in set(among)}
+    least = min(sums.values())
+    equals = [x for x in sums if sums[x] == least]
     nearest = min(distance(c, x, centre) for x in equals)
     ahead, behind = (centre + nearest) % c, (centre - nearest) % c
     return ahead if ahead in equals else behind
+
+
+def centre_of(centre, readings):
+    """What takes the centre's part among equals: itself, or the window's first heard reading if it is silent."""
+    return centre if centre != SILENT else next(iter(heard(readings)), SILENT)
+
+
+def phase(c, centre, readings):
+    """What is written for a window: the chosen one of its heard readings, or silence if there is none."""
+    ticks = heard(readings)
+    return chosen(c, centre_of(centre, readings), ticks, ticks) if ticks else SILENT
 
 
 def filter_refusal(limit, need, shape, first, end, image, output, work):
@@ -227,7 +251,7 @@ def filtered(shape, first, end, image, output):
     n = shape[2]
     for i in range(first, end):
         for j in range(n):
-            output[i * n + j] = chosen(shape[0], image[i * n + j], window(shape, image, i, j))
+            output[i * n + j] = phase(shape[0], image[i * n + j], window(shape, image, i, j))
     return output
 
 

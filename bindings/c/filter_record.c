@@ -1,8 +1,9 @@
 /* Prints the bench sheet of a record: filter_record FILE.
  *
  * An example of the calls for C: the record is read, filtered by the engine that fits the memory, and printed row by
- * row with its drift. The sizes of the memory are those of the bench sheet program, so the text is the same. The exit
- * status is 0 if a sheet or a refusal was printed, 2 for a wrong call and 1 for a file that cannot be read. */
+ * row with its drift, a silent phase as a `-`. The sizes of the memory are those of the bench sheet program, so the
+ * text is the same. The exit status is 0 if a sheet or a refusal was printed, 2 for a wrong call and 1 for a file that
+ * cannot be read. */
 #include <inttypes.h>
 #include <stdio.h>
 
@@ -42,9 +43,13 @@ static void print_row(const circle_median_record_answer *record, uint32_t row)
 
     printf("row %" PRIu32 ":", row);
     for (uint32_t column = 0; column < record->columns; column++) {
-        printf(" %u", (unsigned)phases[column]);
+        if (phases[column] == CIRCLE_MEDIAN_SILENT) {
+            printf(" -");
+        } else {
+            printf(" %u", (unsigned)phases[column]);
+        }
     }
-    /* A filtered row is never refused: each of its phases is a tick. */
+    /* A filtered row is never refused: each of its phases is a tick or silent. */
     printf(" drift %" PRId64 "\n", circle_median_drift(record->cycle, phases, record->columns).value);
 }
 

@@ -15,9 +15,15 @@ ASSERT(value_value, offsetof(circle_median_value_answer, value) == 16);
 ASSERT(record_size, sizeof(circle_median_record_answer) == 40);
 ASSERT(record_cycle, offsetof(circle_median_record_answer, cycle) == 16);
 ASSERT(record_mask_columns, offsetof(circle_median_record_answer, mask_columns) == 32);
+ASSERT(silent, CIRCLE_MEDIAN_SILENT == 65535);
+ASSERT(silent_size, sizeof(CIRCLE_MEDIAN_SILENT) == sizeof(uint16_t));
 
 static const uint16_t image[5] = {1, 4, 1, 7, 7};
 static const uint16_t chosen[5] = {1, 1, 1, 7, 7};
+
+/* The same with silent readings; around the last column none is heard. */
+static const uint16_t gaps[5] = {1, CIRCLE_MEDIAN_SILENT, 7, CIRCLE_MEDIAN_SILENT, CIRCLE_MEDIAN_SILENT};
+static const uint16_t gaps_chosen[5] = {1, 1, 7, 7, CIRCLE_MEDIAN_SILENT};
 
 static int wrong = 0;
 
@@ -59,6 +65,8 @@ static void check_ticks(void)
     expect("a refused slot", is_refused(circle_median_slot(8, 1, 6, 8), 9, 2));
     expect("drift", is_value(circle_median_drift(8, chosen, 5), -2));
     expect("a refused drift", is_refused(circle_median_drift(7, image, 5), 9, 3));
+    expect("a silent argument", is_refused(circle_median_distance(8, 1, CIRCLE_MEDIAN_SILENT), 9, 1));
+    expect("a drift over gaps", is_value(circle_median_drift(8, gaps, 5), -2));
 }
 
 static void check_engines(void)
@@ -75,6 +83,11 @@ static void check_engines(void)
     expect("reading", answer.number == 0 && same(output, chosen));
     answer = circle_median_reading(7, 1, 5, 1, 3, 0, 1, image, 5, output, 5, work, 18);
     expect("a refused reading", answer.number == 9 && answer.place == 3);
+    answer = circle_median_level(8, 1, 5, 1, 3, 0, 1, gaps, 5, output, 5, work, 48);
+    expect("level over gaps", answer.number == 0 && same(output, gaps_chosen));
+    output[0] = 9;
+    answer = circle_median_reading(8, 1, 5, 1, 3, 0, 1, gaps, 5, output, 5, work, 18);
+    expect("reading over gaps", answer.number == 0 && same(output, gaps_chosen));
 }
 
 static void check_record(void)
@@ -90,6 +103,9 @@ static void check_record(void)
     expect("the mask read", record.mask_rows == 1 && record.mask_columns == 3 && same(readings, image));
     record = circle_median_read(bytes, 36, readings, 5);
     expect("a refused read", record.number == 13 && record.place == 35 && record.cycle == 0);
+    expect("a silent write", is_value(circle_median_write(8, 1, 5, 1, 3, gaps, 5, bytes, 35), 35));
+    record = circle_median_read(bytes, 35, readings, 5);
+    expect("a silent read", record.number == 0 && record.cycle == 8 && same(readings, gaps));
 }
 
 int main(void)

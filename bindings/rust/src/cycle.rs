@@ -6,7 +6,8 @@ fn value(answer: sys::ValueAnswer) -> Result<i64, Refusal> {
     Refusal::or(answer.number, answer.place, answer.value)
 }
 
-/// The distance of two ticks, the shorter way around. Refusals: 1, then 9 with the argument's position, `a` being 0.
+/// The distance of two ticks, the shorter way around. Refusals: 1, then 9 with the argument's position, `a` being 0;
+/// [`SILENT`](crate::SILENT) is no tick.
 ///
 /// ```
 /// use circle_median::{distance, Refusal};
@@ -43,12 +44,15 @@ pub fn slot(cycle: u32, p: u16, s: u16, w: u16) -> Result<bool, Refusal> {
     value(sys::circle_median_slot(cycle, p, s, w)).map(|inside| inside != 0)
 }
 
-/// The drift of a row: the sum of the signed steps from each reading to the next. Refusals: 1, 2, 9.
+/// The drift of a row: the sum of the signed steps from each heard reading to the next one heard, whatever is
+/// [`SILENT`](crate::SILENT) between them; 0 if none or one is heard. Refusals: 1, 2, 9.
 ///
 /// ```
-/// use circle_median::{drift, Refusal};
+/// use circle_median::{drift, Refusal, SILENT};
 ///
 /// assert_eq!(drift(8, &[1, 1, 1, 7, 7]), Ok(-2));
+/// assert_eq!(drift(8, &[1, SILENT, SILENT, 7]), Ok(-2));
+/// assert_eq!(drift(8, &[SILENT]), Ok(0));
 /// assert_eq!(drift(8, &[]), Err(Refusal { number: 2, place: 0 }));
 /// ```
 pub fn drift(cycle: u32, row: &[u16]) -> Result<i32, Refusal> {

@@ -29,9 +29,10 @@ pub enum Engine {
 
 /// Filters the rows of a range. Refusals: 1 to 9, in this order.
 ///
-/// `input` has rows · columns readings, row by row. `output` is at least as long; the rows of the range are written,
-/// each at its own spot of the whole image, and the rest stays. `work` has at least [`work_len`](crate::work_len)
-/// numbers; as many are zero at the end. What `output` and `work` held before makes no difference.
+/// `input` has rows · columns readings, row by row, each a tick or [`SILENT`](crate::SILENT). `output` is at least as
+/// long; the rows of the range are written, each at its own spot of the whole image, and the rest stays. `work` has at
+/// least [`work_len`](crate::work_len) numbers; as many are zero at the end. What `output` and `work` held before makes
+/// no difference.
 ///
 /// ```
 /// use circle_median::{filter, work_len, Engine, Refusal, Shape};

@@ -1,8 +1,9 @@
 //! The circle median of wake phases: safe calls of the proved library.
 //!
-//! A cycle has C ticks, and a reading is one of them. The filter replaces each reading of an image by the tick with the
-//! least sum of distances, around the cycle, to the readings of its window; of several such ticks it takes the one
-//! closest to the window's centre, and of two equally close ones the one ahead.
+//! A cycle has C ticks, and a reading is one of them, or [`SILENT`] where a wake was not heard. The filter replaces each
+//! reading of an image by the heard reading of its window with the least sum of distances, around the cycle, to all that
+//! are heard there; of several it takes the one closest to the window's centre, and of two equally close ones the one
+//! ahead.
 //!
 //! Every call returns its result or one [`Refusal`], and a refused call has changed no memory. No argument makes a
 //! call panic. All memory is the caller's; only [`filter_parallel`] allocates.
@@ -34,3 +35,23 @@ pub use parallel::filter_parallel;
 pub use record::{read, write};
 pub use refusal::Refusal;
 pub use shape::{record_len, work_len, Shape};
+
+/// The reading of a wake that was not heard. Images, rows and records may have it on every cycle; no cycle has it as a
+/// tick, so [`distance`], [`step`] and [`slot`] refuse it.
+///
+/// A silent reading has no distance and adds to no sum. Where the centre of a window is silent, the first heard reading
+/// of the window, row by row, takes its part in the choice among equals; where none is heard, the output is silent.
+/// [`drift`] passes over silent entries.
+///
+/// ```
+/// use circle_median::{distance, drift, level, Refusal, Shape, SILENT};
+///
+/// let shape = Shape { cycle: 8, rows: 1, columns: 7, mask_rows: 1, mask_columns: 3 };
+/// let mut output = [0; 7];
+/// level(shape, 0..1, &[1, SILENT, 7, SILENT, SILENT, SILENT, 3], &mut output, &mut [0; 64])?;
+/// assert_eq!(output, [1, 1, 7, 7, SILENT, 3, 3]);
+/// assert_eq!(drift(8, &output), Ok(2));
+/// assert_eq!(distance(8, 1, SILENT), Err(Refusal { number: 9, place: 1 }));
+/// # Ok::<(), Refusal>(())
+/// ```
+pub const SILENT: u16 = 65_535;

@@ -3,7 +3,8 @@
 use crate::{sys, Refusal, Shape};
 
 /// Writes a record to the front of `bytes` and returns its length, which is [`record_len`](crate::record_len); the rest
-/// of `bytes` stays. `readings` are rows · columns, row by row. Refusals: 1, 2, 3, 4, 6, 7, 9, in this order.
+/// of `bytes` stays. `readings` are rows · columns, row by row; [`SILENT`](crate::SILENT) is written as FF FF.
+/// Refusals: 1, 2, 3, 4, 6, 7, 9, in this order.
 ///
 /// ```
 /// use circle_median::{record_len, write, Shape};
@@ -33,19 +34,19 @@ pub fn write(shape: Shape, readings: &[u16], bytes: &mut [u8]) -> Result<usize, 
 }
 
 /// Reads the record that fills `bytes`: returns its shape, and its rows · columns readings stand at the front of
-/// `readings`, the rest of which stays. The fields are tested one by one, so refusals come in the order of the bytes:
-/// any number but 5, 6 and 8.
+/// `readings`, the rest of which stays; FF FF is [`SILENT`](crate::SILENT) on every cycle. The fields are tested one by
+/// one, so refusals come in the order of the bytes: any number but 5, 6 and 8.
 ///
 /// ```
-/// use circle_median::{read, write, Refusal, Shape};
+/// use circle_median::{read, write, Refusal, Shape, SILENT};
 ///
 /// let shape = Shape { cycle: 8, rows: 1, columns: 5, mask_rows: 1, mask_columns: 3 };
 /// let mut bytes = [0; 35];
-/// write(shape, &[1, 4, 1, 7, 7], &mut bytes)?;
+/// write(shape, &[1, 4, SILENT, 7, 7], &mut bytes)?;
 ///
 /// let mut readings = [0; 5];
 /// assert_eq!(read(&bytes, &mut readings)?, shape);
-/// assert_eq!(readings, [1, 4, 1, 7, 7]);
+/// assert_eq!(readings, [1, 4, SILENT, 7, 7]);
 /// assert_eq!(read(&bytes[..30], &mut readings), Err(Refusal { number: 10, place: 19 }));
 /// # Ok::<(), Refusal>(())
 /// ```

@@ -15,7 +15,7 @@ use std::fmt;
 /// | 6 | the input is not rows · columns readings long | |
 /// | 7 | the output, readings or byte buffer is too short | |
 /// | 8 | the work memory is too short | |
-/// | 9 | a reading or an argument is not below the cycle | index of the first |
+/// | 9 | a reading is neither below the cycle nor silent, or an argument is not below the cycle | index of the first |
 /// | 10 | the record ends within a field | the field's offset |
 /// | 11 | a tag is not the one due | its offset |
 /// | 12 | a length is not the one due | its tag's offset |
@@ -24,7 +24,10 @@ use std::fmt;
 /// ```
 /// let refusal = circle_median::drift(8, &[1, 4, 8, 7]).unwrap_err();
 /// assert_eq!((refusal.number, refusal.place), (9, 2));
-/// assert_eq!(refusal.to_string(), "refused 9 at 2: a reading or an argument is not below the cycle");
+/// assert_eq!(
+///     refusal.to_string(),
+///     "refused 9 at 2: a reading is neither below the cycle nor silent, or an argument is not below the cycle"
+/// );
 /// ```
 #[derive(Debug, Clone, Copy, PartialEq, Eq, Hash)]
 pub struct Refusal {
@@ -56,7 +59,7 @@ impl Refusal {
             6 => "the input is not rows * columns readings long",
             7 => "the output, readings or byte buffer is too short",
             8 => "the work memory is too short",
-            9 => "a reading or an argument is not below the cycle",
+            9 => "a reading is neither below the cycle nor silent, or an argument is not below the cycle",
             10 => "the record ends within a field",
             11 => "a tag is not the one due",
             12 => "a length is not the one due",

@@ -4,13 +4,14 @@ use mathlib.Core.Path.{_≡_}
 use mathlib.Core.List.{List, [], _∷_}
 use native.Mathlib.Omega.{arith}
 use borrow.Author.Tests.{ltb-true, ltb-false, le-ltb, eqb-false, ne-eqb, not-false}
+use mathlib.Core.Bool.{true}
 use lib.ListN.{length, getD}
 use Rattle.lists.specs.First.{firstBad}
 use Rattle.lists.proofs.First.{before-first}
 use Rattle.refusal.specs.Limits.{longestCycle, mostColumns}
 use Rattle.refusal.specs.Outcome.{Clear}
 use Rattle.refusal.proofs.Outcome.{clear-split}
-use Rattle.cycle.specs.Distance.{isReading}
+use Rattle.cycle.specs.Silence.{isReading}
 use Rattle.cycle.specs.Calls.{pairRules, tickRule, slotRules, rowRules}
 
 pub record Pair (c a b : ℕ) : Type 0 where
@@ -61,6 +62,7 @@ clear-drift c row r = (
   ),
 )
 
--- where no reading is bad, each is a tick
-pub reading-below : (c : ℕ) (readings : List ℕ) (k : ℕ) → length readings ≤ firstBad (isReading c) readings → k < length readings → getD readings k 0 < c
-reading-below c readings k good h = ltb-true _ c (before-first (isReading c) 0 readings k (omega arith))
+-- where none is bad, each is a reading
+pub reading-good : (c : ℕ) (readings : List ℕ) (k : ℕ) → length readings ≤ firstBad (isReading c) readings → k < length readings
+    → isReading c (getD readings k 0) ≡ true
+reading-good c readings k good h = before-first (isReading c) 0 readings k (omega arith)

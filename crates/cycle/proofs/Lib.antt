@@ -1,3 +1,4 @@
+pub mod SilenceLaws
 pub mod Accepted
 pub mod Ways
 pub mod DistanceLaws

@@ -4,22 +4,23 @@ use mathlib.Core.Bool.{true}
 use mathlib.Core.Path.{_≡_, sym}
 use mathlib.Core.List.{List, [], _∷_}
 use native.Mathlib.Omega.{arith}
-use borrow.Author.Tests.{ltb-true}
 use lib.Signed.{mag}
 use lib.IntN.{ℤ, pos, negsuc, natAbs, _+ℤ_}
 use lib.ListN.{length}
 use Rattle.lists.specs.Members.{Each}
 use Rattle.lists.proofs.First.{all-good}
+use Rattle.lists.proofs.Keep.{keep-length}
 use Rattle.refusal.specs.Limits.{longestCycle}
 use Rattle.refusal.specs.Outcome.{Clear}
 use Rattle.refusal.specs.Outcome.Outcome.{accepted}
 use Rattle.refusal.proofs.Outcome.{accepted-clear, accepted-value}
-use Rattle.cycle.specs.Distance.{isReading}
-use Rattle.cycle.specs.Step.{step, drift}
+use Rattle.cycle.specs.Silence.{isHeard, isReading, heard}
+use Rattle.cycle.specs.Step.{step, stepSum, drift}
 use Rattle.cycle.specs.Calls.{pairRules, rowRules, stepDue, driftDue}
 use Rattle.cycle.proofs.Accepted.{pair-clear, drift-clear}
 use Rattle.cycle.proofs.DistanceLaws.{distance-half}
 use Rattle.cycle.proofs.SignedLaws.{sub-size, mag-size}
+use Rattle.cycle.proofs.SilenceLaws.{heard-ticks}
 use Rattle.cycle.proofs.StepLaws.{step-size}
 
 sum-size : (x y : ℤ) → natAbs (x +ℤ y) ≤ natAbs x + natAbs y
@@ -29,14 +30,18 @@ sum-size (negsuc a) (pos b) = omega (arith, sub-size b (suc a))
 sum-size (negsuc a) (negsuc b) = omega arith
 
 -- a step of at most half a cycle for each reading
+steps-size : {c : ℕ} → c ≤ longestCycle → (row : List ℕ) → Each (λ y. y < c) row → natAbs (stepSum c row) ≤ length row * 32767
+unfolding stepSum
+steps-size fits [] e = omega arith
+steps-size fits (a ∷ []) e = omega arith
+steps-size {c} fits (a ∷ (b ∷ row)) e =
+    let ha : a < c = e .0 in
+    let hb : b < c = e .1 .0 in
+    omega (arith, sum-size (step c a b) (stepSum c (b ∷ row)), step-size c a b ha hb, distance-half c a b ha hb, steps-size fits (b ∷ row) (e .1))
+
 pub drift-size : {c : ℕ} → c ≤ longestCycle → (row : List ℕ) → Each (λ y. isReading c y ≡ true) row → natAbs (drift c row) ≤ length row * 32767
 unfolding drift
-drift-size fits [] e = omega arith
-drift-size fits (a ∷ []) e = omega arith
-drift-size {c} fits (a ∷ (b ∷ row)) e =
-    let ha = ltb-true a c (e .0) in
-    let hb = ltb-true b c (e .1 .0) in
-    omega (arith, sum-size (step c a b) (drift c (b ∷ row)), step-size c a b ha hb, distance-half c a b ha hb, drift-size fits (b ∷ row) (e .1))
+drift-size {c} fits row e = omega (arith, steps-size fits (heard row) (heard-ticks c row e), keep-length isHeard row)
 
 pub drift-fits : (c : ℕ) (row : List ℕ) → Clear (rowRules c row) → mag (drift c row) < 2 ^ 31
 drift-fits c row clear =

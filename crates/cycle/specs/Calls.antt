@@ -9,7 +9,8 @@ use Rattle.lists.specs.First.{firstBad}
 use Rattle.refusal.specs.Limits.{longestCycle, mostColumns}
 use Rattle.refusal.specs.Outcome.{Outcome, Rule, rule, rangeRules, firstDue, refusal}
 use Rattle.refusal.specs.Outcome.Outcome.{accepted}
-use Rattle.cycle.specs.Distance.{distance, isTick, isReading}
+use Rattle.cycle.specs.Distance.{distance, isTick}
+use Rattle.cycle.specs.Silence.{isReading}
 use Rattle.cycle.specs.Step.{step, drift, inSlot}
 use Rattle.cycle.specs.declared.DistanceAnswer.{DistanceAnswer}
 use Rattle.cycle.specs.declared.SlotAnswer.{SlotAnswer}
@@ -26,7 +27,8 @@ cycleRules limit c = rangeRules 1 0 limit c
 abbrev pub tickRule : ℕ → ℕ → ℕ → Rule
 tickRule c x place = rule (not (isTick c x)) 9 place
 
--- 9, of an image or a row: the index of the first reading that is none
+-- 9, of an image or a row: the index of the first that is no reading. "Refusal 9 no longer covers 65,535 in an image or row; distance,
+-- step and slot still refuse it" (document 02, T-01).
 abbrev pub readingRule : ℕ → List ℕ → Rule
 readingRule c readings = rule (ltb (firstBad (isReading c) readings) (length readings)) 9 (firstBad (isReading c) readings)
 

@@ -15,7 +15,3 @@ distance c a b = min (gap a b) (c - gap a b)
 -- x is a tick of the cycle
 abbrev pub isTick : ℕ → ℕ → Bool
 isTick c x = ltb x c
-
--- x is a reading that an image, a row or a record may hold
-abbrev pub isReading : ℕ → ℕ → Bool
-isReading = isTick

@@ -4,6 +4,7 @@ use mathlib.Core.Bool.{Bool, cond}
 use mathlib.Core.List.{List, [], _∷_}
 use lib.Dec.{leb}
 use lib.IntN.{ℤ, pos, _+ℤ_, _-ℤ_}
+use Rattle.cycle.specs.Silence.{heard}
 
 -- (b - a) modulo c: how many ticks b lies ahead of a
 unfoldable pub ahead : ℕ → ℕ → ℕ → ℕ
@@ -21,11 +22,16 @@ stepOf c e = cond (isForward c e) (pos e) (pos e -ℤ pos c)
 unfoldable pub step : ℕ → ℕ → ℕ → ℤ
 step c a b = stepOf c (ahead c a b)
 
--- the drift of a row: the sum of the steps between neighbours
+-- the sum of the steps between neighbours
+unfoldable pub stepSum : ℕ → List ℕ → ℤ
+stepSum c [] = pos 0
+stepSum c (a ∷ []) = pos 0
+stepSum c (a ∷ (b ∷ row)) = step c a b +ℤ stepSum c (b ∷ row)
+
+-- the drift of a row. "Drift passes over silent entries, and with none heard is 0" (document 02, T-01): a step goes from a heard reading to the
+-- next heard one.
 unfoldable pub drift : ℕ → List ℕ → ℤ
-drift c [] = pos 0
-drift c (a ∷ []) = pos 0
-drift c (a ∷ (b ∷ row)) = step c a b +ℤ drift c (b ∷ row)
+drift c row = stepSum c (heard row)
 
 -- tick p is in slot (s, w)
 unfoldable pub inSlot : ℕ → ℕ → ℕ → ℕ → Bool

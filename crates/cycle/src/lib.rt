@@ -1,10 +1,12 @@
 // The cycle of document 01, "The dial": distance, signed step, listening slot and drift. Ticks are
-// 16 bits, the cycle 32; each call tests its arguments and answers for every input.
+// 16 bits, the cycle 32; each call tests its arguments and answers for every input. A row may have silent
+// readings (document 02, T-01).
 mod ticks;
 mod verdicts;
 
 use refusal::Refusal;
 use refusal::Verdict;
+pub use ticks::SILENT;
 use ticks::ahead_of;
 pub use ticks::apart;
 use ticks::drift_of;
@@ -12,6 +14,8 @@ pub use ticks::least;
 pub use ticks::less;
 use ticks::signed_step;
 pub use verdicts::cycle_verdict;
+pub use verdicts::highest;
+pub use verdicts::next_of;
 use verdicts::pair_verdict;
 pub use verdicts::reading_verdict;
 use verdicts::row_verdict;
@@ -72,7 +76,7 @@ pub fn slot(cycle: u32, p: u16, s: u16, w: u16) -> SlotAnswer
     }
 }
 
-// The drift of a row: the sum of the steps between neighbours.
+// The drift of a row: the sum of the steps from each heard reading to the next.
 pub fn drift(cycle: u32, row: &[u16]) -> SignedAnswer
     ensures { λ r. ⌜ signedOutcome r ≡ driftDue cycle (now (row .entry)) ⌝ }
 {

@@ -1,13 +1,18 @@
 // Arithmetic on ticks that have been tested.
 ghost use mathlib.Core.Path.{_≡_};
-ghost use mathlib.Core.Bool.{cond};
+ghost use mathlib.Core.Bool.{true, cond};
 ghost use Prim.Native.Nat.{_-_, _^_, _≤_, _<_, min};
 ghost use lib.IntN.{pos, _-ℤ_};
 ghost use lib.ListN.{length};
 ghost use Rattle.lists.specs.First.{firstBad};
 ghost use Rattle.refusal.specs.Limits.{mostColumns};
-ghost use Rattle.cycle.specs.Distance.{distance, isReading};
+ghost use Rattle.cycle.specs.Distance.{distance};
+ghost use Rattle.cycle.specs.Silence.{isReading};
 ghost use Rattle.cycle.specs.Step.{ahead, isForward, step, drift};
+ghost use Rattle.cycle.specs.Gaps.{wayOn, latest};
+
+// The reading of a wake that was not heard; no cycle has it as a tick.
+pub const SILENT: u16 = 65535;
 
 // The distance of two ticks: 16 bits wide and free of branches, for loops over many.
 pub fn apart(cycle: u16, a: u16, b: u16) -> u16
@@ -64,19 +69,43 @@ pub fn signed_step(cycle: u32, a: u32, b: u32) -> i32
     signed(e, turn_back(cycle, e))
 }
 
-// The sum of the steps between neighbours: the ways ahead and the cycles to take off are summed
-// each by itself, and subtracted once.
+// How many ticks a reading lies ahead of the last one heard: none if either is silent.
+fn way_on(cycle: u32, last: u16, z: u16) -> u32
+    requires { ⌜ (isReading cycle last ≡ true) × (isReading cycle z ≡ true) ⌝ }
+    ensures { λ r. ⌜ r ≡ wayOn cycle last z ⌝ }
+{
+    if last == SILENT {
+        return 0;
+    }
+    if z == SILENT {
+        return 0;
+    }
+    ahead_of(cycle, last as u32, z as u32)
+}
+
+// The last reading heard, with one reading more.
+fn later(last: u16, z: u16) -> u16
+    ensures { λ r. ⌜ r ≡ latest last z ⌝ }
+{
+    if z == SILENT { last } else { z }
+}
+
+// The sum of the steps from each heard reading to the next: the ways ahead and the cycles to take off are
+// summed each by itself, and subtracted once.
 pub fn drift_of(cycle: u32, row: &[u16]) -> i32
     requires { ⌜ (0 < cycle) × (cycle < 2 ^ 16) × (length (now row) ≤ mostColumns) × (length (now row) ≤ firstBad (isReading cycle) (now row)) ⌝ }
     ensures { λ r. ⌜ r ≡ drift cycle (now (row .entry)) ⌝ }
 {
     let mut up: u32 = 0;
     let mut back: u32 = 0;
+    let mut last = SILENT;
     let mut i: usize = 0;
-    while i + 1 < row.len() {
-        let e = ahead_of(cycle, row[i] as u32, row[i + 1] as u32);
+    while i < row.len() {
+        let z = row[i];
+        let e = way_on(cycle, last, z);
         up += e;
         back += turn_back(cycle, e);
+        last = later(last, z);
         i += 1;
     }
     signed(up, back)

@@ -5,13 +5,14 @@ use refusal::first_of;
 use refusal::limits::LONGEST_CYCLE;
 use refusal::limits::MOST_COLUMNS;
 use refusal::range_verdict;
+use std::num::wrapping_add_u16;
 ghost use mathlib.Core.Path.{_≡_};
 ghost use mathlib.Core.List.{[], _∷_};
-ghost use Prim.Native.Nat.{ℕ, _≤_, _<_};
+ghost use Prim.Native.Nat.{ℕ, _+_, _%_, _^_, _≤_, _<_};
 ghost use lib.ListN.{length, getD};
 ghost use Rattle.lists.specs.First.{firstBad};
 ghost use Rattle.refusal.specs.Outcome.{firstDue, verdict};
-ghost use Rattle.cycle.specs.Distance.{isReading};
+ghost use Rattle.cycle.specs.Silence.{isReading};
 ghost use Rattle.cycle.specs.Calls.{cycleRules, tickRule, pairRules, slotRules, readingRule, rowRules};
 
 // Test 1, for a call that takes cycles up to a limit.
@@ -49,17 +50,24 @@ fn greater(a: u16, b: u16) -> u16
     if a < b { b } else { a }
 }
 
-// A number that no reading is above: one pass of packed instructions.
-fn highest(readings: &[u16]) -> u16
-    ensures { λ r. ⌜ ((k : ℕ) → k < length (now (readings .entry)) → getD (now (readings .entry)) k 0 ≤ r) ⌝ }
+// A number that no reading is above, once a number was added to each modulo 2^16: one pass of packed instructions.
+pub fn highest(readings: &[u16], more: u16) -> u16
+    ensures { λ r. ⌜ ((k : ℕ) → k < length (now (readings .entry)) → (getD (now (readings .entry)) k 0 + more) % 2 ^ 16 ≤ r) ⌝ }
 {
     let mut top = 0;
     let mut i = 0;
     while i < readings.len() {
-        top = greater(readings[i], top);
+        top = greater(wrapping_add_u16(readings[i], more), top);
         i += 1;
     }
     top
+}
+
+// The number after x modulo 2^16: 0 of a silent reading. It is at most C exactly if x is a reading.
+pub fn next_of(x: u16) -> u16
+    ensures { λ r. ⌜ r ≡ (x + 1) % 2 ^ 16 ⌝ }
+{
+    wrapping_add_u16(x, 1)
 }
 
 // The index of the first reading that is none, or the number of readings, one reading after the other.
@@ -68,7 +76,7 @@ fn search(cycle: u32, readings: &[u16]) -> usize
 {
     let mut i = 0;
     while i < readings.len() {
-        if cycle <= readings[i] as u32 {
+        if cycle < next_of(readings[i]) as u32 {
             return i;
         }
         i += 1;
@@ -76,11 +84,11 @@ fn search(cycle: u32, readings: &[u16]) -> usize
     i
 }
 
-// The same. Most often all readings are good, and then their highest tells it.
+// The same. Most often all readings are good, and then the highest of the numbers after them tells it.
 fn first_bad(cycle: u32, readings: &[u16]) -> usize
     ensures { λ r. ⌜ r ≡ firstBad (isReading cycle) (now (readings .entry)) ⌝ }
 {
-    if (highest(readings) as u32) < cycle {
+    if highest(readings, 1) as u32 <= cycle {
         return readings.len();
     }
     search(cycle, readings)

@@ -15,7 +15,7 @@ use Rattle.refusal.specs.Outcome.{Rule, firstDue, Clear}
 use Rattle.refusal.specs.Outcome.Outcome.{accepted}
 use Rattle.refusal.proofs.Outcome.{after-same, accepted-clear, clear-split}
 use Rattle.refusal.specs.Limits.{longestCycle}
-use Rattle.cycle.specs.Distance.{isReading}
+use Rattle.cycle.specs.Silence.{isReading}
 use Rattle.shape.specs.Rules.{shapeRules, area}
 use Rattle.shape.specs.declared.Shape.{Shape}
 use Rattle.memory.specs.Memory.{Changed}

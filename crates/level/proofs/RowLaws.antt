@@ -2,16 +2,19 @@
 -- Assumes nothing.
 use Prim.Native.Nat.{ℕ, _+_, _*_, _≤_, _<_}
 use mathlib.Core.Path.{_≡_, ap, sym, _∙_}
-use mathlib.Core.List.{List}
+use mathlib.Core.List.{List, []}
 use native.Mathlib.Omega.{arith}
 use native.Mathlib.Decide.{ℕ-discrete}
 use borrow.Author.Tests.{ltb-false, le-ltb}
 use lib.ListN.{length, getD, set, length-set}
 use lib.Seq.{getD-set-same, getD-set-other, ext-getD}
+use Rattle.lists.specs.Members.{In}
 use Rattle.lists.specs.Tabulate.{tabulate}
+use Rattle.lists.proofs.Members.{in-some}
 use Rattle.lists.proofs.Parts.{part-end}
 use Rattle.lists.proofs.Tabulate.{length-tabulate, getD-tabulate}
 use Rattle.refusal.specs.Limits.{levelCycle, longestCycle}
+use Rattle.cycle.specs.Silence.{silent, heard}
 use Rattle.shape.specs.Need.{levelNeed}
 use Rattle.shape.specs.declared.Shape.{Shape}
 use Rattle.median.proofs.Sum.{shares-sum}
@@ -19,11 +22,11 @@ use Rattle.median.proofs.Choice.{chosen-by-sums}
 use Rattle.memory.specs.Memory.{Holds, Changed, Outside, ChangedBoth, lowest}
 use Rattle.memory.specs.Parts.{copied}
 use Rattle.memory.proofs.Lowest.{lowest-cong}
-use Rattle.window.specs.Phase.{phase, phaseAt}
-use Rattle.window.proofs.Phase.{phase-at}
+use Rattle.window.specs.Phase.{centreAt, phase, phaseAt}
+use Rattle.window.proofs.Phase.{phase-at, phase-chosen, phase-none}
 use Rattle.window.specs.Ready.{Ready}
-use Rattle.window.specs.Window.{window, centre}
-use Rattle.window.proofs.Window.{centre-below}
+use Rattle.window.specs.Window.{window}
+use Rattle.window.proofs.Window.{cycle-heard, centre-at-case, centre-at-reading}
 use Rattle.lines.specs.Lines.{Centres}
 use Rattle.lines.specs.Rows.{Given}
 use Rattle.level_sums.specs.Sums.{windowSum, RowSums}
@@ -38,28 +41,36 @@ ready-longest {s} r =
     let fits = ltb-false levelCycle (s .cycle) (k .1 .0) in
     record { shape = (k .0, (le-ltb longestCycle (s .cycle) (omega arith), k .1 .1)); size = r .size; good = r .good }
 
--- the tick of column j may be chosen by its centre in the line of centres and its sums in the work memory, and is the phase of row i then
+-- the phase of column j of row i may be chosen by its centre in the line of centres and its sums in the work memory, and the choice is that
+-- phase
 pub record Ripe (s : Shape) (image : List ℕ) (i : ℕ) (centres w : List ℕ) (j base : ℕ) : Type 0 where
   pub choosable : Choosable (s .cycle) centres w j base
   pub chosen : (r : ℕ) → ChosenBy (s .cycle) centres w j base r → r ≡ phase s image i j
 
 pub ripe : {s : Shape} {image centres : List ℕ} {i j base : ℕ} (w : List ℕ) → Given levelCycle levelNeed s image (length w) → i < s .rows → j < s .columns
     → Centres s image i centres → base ≡ j * s .cycle → Holds w base (s .cycle) (windowSum s image i j) → Ripe s image i centres w j base
-unfolding phase
 ripe {s} {image} {centres} {i} {j} {base} w given hi hj mid at holds = record {
   choosable = record {
     fits = omega (arith, accepted given);
     inside = omega (arith, mid .len, accepted given);
-    tick = rw (mid .holds j hj) tick;
+    reading = rw (mid .holds j hj) (centre-at-reading (given .ready) (omega arith) i j hi hj);
     room = omega (arith, column-room given j hj, columns-room given);
     signed = λ q h. rw (holds q h) (window-signed s image given i j hi hj q h);
   };
-  chosen = λ r x. chosen-by-sums (s .cycle) (centre 0 s image i j) (window 0 s image i j) tick (copied w base) r (rw (mid .holds j hj) at x)
-      (λ q h. holds q h ∙ shares-sum (s .cycle) q (window 0 s image i j));
+  chosen = λ r x. centre-at-case (given .ready) (omega arith) i j hi hj (some r x) (none r x);
 }
   where
-    tick : centre 0 s image i j < s .cycle
-    tick = centre-below (given .ready) (omega arith) i j hi hj
+    -- something heard: the choice by the sums of the heard readings
+    some : (r : ℕ) → ChosenBy (s .cycle) centres w j base r → In (centreAt s image i j) (heard (window 0 s image i j)) → centreAt s image i j < s .cycle
+        → r ≡ phase s image i j
+    some r x member tick =
+        chosen-by-sums (s .cycle) (centreAt s image i j) (heard (window 0 s image i j)) tick (copied w base) r
+        (rw (mid .holds j hj) at (x .some-heard (rw (mid .holds j hj) tick)))
+        (λ q h. holds q h ∙ shares-sum (s .cycle) q (window 0 s image i j) (cycle-heard (given .ready) (omega arith) q h))
+        ∙ sym (phase-chosen (given .ready) (omega arith) i j hi hj (in-some (centreAt s image i j) (heard (window 0 s image i j)) member))
+
+    none : (r : ℕ) → ChosenBy (s .cycle) centres w j base r → heard (window 0 s image i j) ≡ [] → centreAt s image i j ≡ silent → r ≡ phase s image i j
+    none r x empty e = x .none-heard (mid .holds j hj ∙ e) ∙ sym (phase-none (given .ready) (omega arith) i j hi hj empty)
 
 -- the lowest of the numbers that a part holds
 pub lowest-held : (w : List ℕ) (base n : ℕ) (f : ℕ → ℕ) {least : ℕ} → Holds w base n f → least ≡ lowest f n → least ≡ lowest (copied w base) n

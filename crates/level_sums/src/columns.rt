@@ -1,4 +1,5 @@
 // The sums of a column, set up afresh, moved on by a column, and moved down by a row.
+use cycle::SILENT;
 use memory::add;
 use memory::clear;
 use memory::copy;
@@ -7,21 +8,35 @@ use memory::turn;
 use shape::Shape;
 use window::mirrored;
 ghost use mathlib.Core.Path.{_≡_};
-ghost use Prim.Native.Nat.{_+_, _*_, _<_};
+ghost use mathlib.Core.Bool.{true};
+ghost use Prim.Native.Nat.{_+_, _*_, _≤_, _<_};
 ghost use lib.ListN.{length};
 ghost use Rattle.refusal.specs.Limits.{levelCycle};
+ghost use Rattle.cycle.specs.Silence.{isReading};
 ghost use Rattle.shape.specs.Need.{levelNeed};
 ghost use Rattle.shape.specs.Rules.{reach};
 ghost use Rattle.memory.specs.Memory.{Holds, Changed, ChangedBoth, lowest};
 ghost use Rattle.window.specs.Ready.{Ready};
 ghost use Rattle.lines.specs.Rows.{Given};
-ghost use Rattle.level_sums.specs.Table.{Table, PartAt};
+ghost use Rattle.level_sums.specs.Table.{Table, PartOf, PartAt};
 ghost use Rattle.level_sums.specs.Sums.{windowSum, blockSum, rowChange};
 
 pub fn wide(x: u16) -> usize
     ensures { λ r. ⌜ r ≡ x ⌝ }
 {
     x as usize
+}
+
+// Where the table's part starts for a reading.
+fn part_of(cycle: usize, y: u16) -> usize
+    requires { ⌜ (cycle ≤ levelCycle) × (isReading cycle y ≡ true) ⌝ }
+    ensures { λ r. ⌜ PartOf cycle y r ⌝ }
+{
+    if y == SILENT {
+        2 * cycle
+    } else {
+        cycle - wide(y)
+    }
 }
 
 // Where the table's part starts for the reading at a row's and a column's position of the padded image.
@@ -41,7 +56,7 @@ fn part_at(shape: Shape, image: &[u16], row_position: usize, column_position: us
         column_position,
     );
     let place = row * (shape.columns as usize) + column;
-    (shape.cycle as usize) - wide(image[place])
+    part_of(shape.cycle as usize, image[place])
 }
 
 // Adds mask row k of the window of row i and column 0.

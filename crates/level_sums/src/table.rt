@@ -1,4 +1,5 @@
-// The table of distances: by it, the distances of all ticks to a reading are contiguous.
+// The table of distances: by it, what a reading adds to the sums at all ticks is contiguous. A heard reading
+// adds its distances, a silent one zeros.
 use cycle::apart;
 use refusal::limits::LEVEL_CYCLE;
 ghost use mathlib.Core.Path.{_≡_};
@@ -8,8 +9,8 @@ ghost use Rattle.refusal.specs.Limits.{levelCycle};
 ghost use Rattle.cycle.specs.Distance.{distance};
 ghost use Rattle.level_sums.specs.Table.{Table, tableLength};
 
-// The numbers in the table: two rounds of the longest cycle that the engine takes.
-pub const TABLE: usize = (2 * LEVEL_CYCLE) as usize;
+// The numbers in the table: two rounds of the longest cycle that the engine takes, and one of zeros.
+pub const TABLE: usize = (3 * LEVEL_CYCLE) as usize;
 
 // k modulo the cycle, for k below two cycles.
 fn fold(cycle: usize, k: usize) -> usize
@@ -28,7 +29,7 @@ fn distance_at(cycle: usize, k: usize) -> u32
     apart(cycle as u16, tick as u16, 0) as u32
 }
 
-// Fills a table of zeros.
+// Fills two rounds of a table of zeros.
 pub fn distances(cycle: usize, table: &mut [u32])
     requires { ⌜ (cycle ≤ levelCycle) × (now table ≡ replicate tableLength 0) ⌝ }
     ensures { λ _. ⌜ Table cycle (now (table .exit)) ⌝ }

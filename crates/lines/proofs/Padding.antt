@@ -1,11 +1,13 @@
 -- A line is put together from the row and its two mirrored edges. Assumes nothing.
 use Prim.Native.Nat.{ℕ, _+_, _-_, _*_, _≤_, _<_}
 use mathlib.Core.Path.{_≡_, ap, sym, _∙_}
+use mathlib.Core.Bool.{true}
 use mathlib.Core.List.{List}
 use native.Mathlib.Omega.{arith}
 use native.Mathlib.Decide.{decLt}
 use native.Mathlib.Nat.{zero-add}
 use lib.ListN.{getD}
+use Rattle.cycle.specs.Silence.{isReading}
 use Rattle.shape.specs.Rules.{reach}
 use Rattle.shape.specs.declared.Shape.{Shape}
 use Rattle.memory.specs.Memory.{Changed}
@@ -22,7 +24,8 @@ module _ (s : Shape) (image : List ℕ) (p row : ℕ) where
   abbrev n : ℕ
   n = s .columns
 
-  module _ (e : row ≡ mirror (s .rows) (reach (s .«mask_rows»)) p * n) (fits : h ≤ n) where
+  module _ (e : row ≡ mirror (s .rows) (reach (s .«mask_rows»)) p * n) (fits : h ≤ n)
+      (good : (k : ℕ) → k < paddedLength s → isReading (s .cycle) (padded 0 s image p k) ≡ true) where
     -- the reading that a place of the line stands for
     at : (k m : ℕ) → mirror n h k ≡ m → getD image (row + m) 0 ≡ padded 0 s image p k
     unfolding padded
@@ -30,8 +33,15 @@ module _ (s : Shape) (image : List ℕ) (p row : ℕ) where
 
     pub line-made : {w₀ w₁ w₂ w₃ : List ℕ} → IsLine w₀ → Changed w₀ w₁ 0 h (backwards image (row + h)) → Changed w₁ w₂ h n (copied image row)
         → Changed w₂ w₃ (h + n) h (backwards image (row + n)) → Line s image p w₃
-    line-made {w₀} {w₁} {w₂} {w₃} b x y z = record { len = z .len ∙ y .len ∙ x .len ∙ b; holds = λ k. low k (decLt k h) }
+    line-made {w₀} {w₁} {w₂} {w₃} b x y z = record {
+      len = long;
+      holds = held;
+      reads = record { len = long; readings = λ k l. rw (held k l) (good k l) };
+    }
       where
+        long : IsLine w₃
+        long = z .len ∙ y .len ∙ x .len ∙ b
+
         past : (k : ℕ) → h + n ≤ k → k < paddedLength s → getD w₃ k 0 ≡ padded 0 s image p k
         past k g l =
             ap (λ (i : ℕ). getD w₃ i 0) (omega arith) ∙ z .holds (k - (h + n)) (omega arith)
@@ -50,3 +60,6 @@ module _ (s : Shape) (image : List ℕ) (p row : ℕ) where
             ∙ ap (λ (i : ℕ). getD image i 0) (omega arith)
             ∙ at k (h - 1 - k) (mirror-low n h k l)
         low k (no l) u = middle k (decLt k (h + n)) (omega arith) u
+
+        held : (k : ℕ) → k < paddedLength s → getD w₃ k 0 ≡ padded 0 s image p k
+        held k = low k (decLt k h)

@@ -102,6 +102,19 @@ difference-sum w a b x y =
     ∙ congruent-mod (w + difference a b + difference x y) (w + difference (x + a) (y + b))
     (p .0 + q .0 + r .1, p .1 + q .1 + r .0, omega (arith, p .2, q .2, r .2))
 
+-- a difference that was begun at w stays one
+pub difference-begun : (w a b x y : ℕ) → adjusted ((w + difference a b) % 2 ^ 32) x y ≡ (w + difference (a + x) (b + y)) % 2 ^ 32
+difference-begun w a b x y =
+    let d = (w + difference a b) % 2 ^ 32 in
+    let same : d % 2 ^ 32 ≡ (w + difference a b) % 2 ^ 32 = omega arith in
+    let o = congruent d (w + difference a b) same in
+    let p = difference-congruent a b in
+    let q = adjusted-congruent d x y in
+    let r = difference-congruent (a + x) (b + y) in
+    let whole = congruent-mod (adjusted d x y) (w + difference (a + x) (b + y))
+    (q .0 + o .0 + p .0 + r .1, r .0 + p .1 + o .1 + q .1, omega (arith, o .2, p .2, q .2, r .2)) in
+    omega (arith, whole, adjusted-fits d x y)
+
 -- nothing less nothing
 pub difference-none : difference 0 0 ≡ 0
 unfolding difference

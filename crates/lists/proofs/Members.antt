@@ -22,6 +22,11 @@ pub each-split : {A : Type 0} (P : A → Type 0) (xs ys : List A) → Each P (xs
 each-split P [] ys e = (tt, e)
 each-split P (x ∷ xs) ys e = let r = each-split P xs ys (e .1) in ((e .0, r .0), r .1)
 
+-- what follows of each element
+pub each-map : {A : Type 0} {P Q : A → Type 0} → ((x : A) → P x → Q x) → (xs : List A) → Each P xs → Each Q xs
+each-map f [] e = tt
+each-map f (x ∷ xs) e = (f x (e .0), each-map f xs (e .1))
+
 -- whether a number is an element
 pub in-dec : (y : ℕ) (xs : List ℕ) → Dec (In y xs)
 in-dec y [] = no (λ i. i)

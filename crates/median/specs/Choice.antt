@@ -23,11 +23,11 @@ key c a sum q = sum q * (2 * c) + rank c a q
 unfoldable pub choose : ℕ → ℕ → (ℕ → ℕ) → List ℕ → ℕ
 choose c a sum candidates = leastOf (key c a sum) candidates
 
--- the candidates: every tick of the cycle
+-- every tick of the cycle as a candidate: so document 01 words it, and so the level engine chooses
 abbrev pub candidates : ℕ → List ℕ
 candidates c = tabulate (λ q. q) 0 c
 
--- the chosen phase of readings with the centre a
+-- the chosen phase among all ticks, of readings with the centre a; `median-chosen`: where the centre is a reading it is their median
 unfoldable pub chosen : ℕ → ℕ → List ℕ → ℕ
 chosen c a readings = choose c a (λ q. sumAt c q readings) (candidates c)
 

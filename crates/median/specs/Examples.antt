@@ -1,13 +1,15 @@
--- Document 01, "Bench examples": P1 to P12, with the sums that the table names.
+-- Document 01, "Bench examples": P1 to P12, with the sums that the table names; and document 02, T-01: document 000's example 2 in 16
+-- ticks, with a silent centre.
 use Prim.Native.Nat.{ℕ, _/_}
 use mathlib.Core.Path.{_≡_}
 use mathlib.Core.List.{List, [], _∷_}
 use lib.IntN.{ℤ, pos, negsuc}
 use lib.ListN.{length, getD}
 use Rattle.lists.specs.Members.{Each}
+use Rattle.cycle.specs.Silence.{silent, heard}
 use Rattle.cycle.specs.Step.{step}
 use Rattle.median.specs.Sum.{sumAt}
-use Rattle.median.specs.Choice.{chosen}
+use Rattle.median.specs.Median.{phaseOf}
 
 -- the sum of a window at a tick
 pub record SumOf : Type 0 where
@@ -31,7 +33,8 @@ middle readings = getD readings (length readings / 2) 0
 
 -- what an example says
 abbrev pub Agrees : Example → Type 0
-Agrees (window c readings phase sums) = (chosen c (middle readings) readings ≡ phase) × Each (λ s. sumAt c (s .tick) readings ≡ s .sum) sums
+Agrees (window c readings phase sums) =
+    (phaseOf c (middle readings) readings ≡ phase) × Each (λ s. sumAt c (s .tick) (heard readings) ≡ s .sum) sums
 Agrees (steps c ss) = Each (λ s. step c (s .start) (s .end) ≡ s .step) ss
 
 abbrev pub sum-of : ℕ → ℕ → SumOf
@@ -53,5 +56,6 @@ examples =
     ∷ window 360 (359 ∷ 0 ∷ 1 ∷ []) 0 []
     ∷ window 1 (0 ∷ 0 ∷ 0 ∷ []) 0 []
     ∷ window 2 (0 ∷ 1 ∷ 1 ∷ []) 1 []
+    ∷ window 16 (15 ∷ 1 ∷ silent ∷ 8 ∷ 8 ∷ []) 8 (sum-of 8 14 ∷ sum-of 15 16 ∷ sum-of 1 16 ∷ [])
     ∷ steps 8 (step-of 1 5 (pos 4) ∷ step-of 1 6 (negsuc 2) ∷ [])
     ∷ []

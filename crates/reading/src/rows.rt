@@ -3,8 +3,8 @@
 use lines::LINE;
 use lines::centres;
 use lines::pad;
+use reading_choice::phases;
 use reading_choice::reset;
-use reading_choice::ticks;
 use reading_turns::enter;
 use reading_turns::stay;
 use shape::Shape;
@@ -144,7 +144,7 @@ fn one_row(
         × Outside (now (work .entry)) (now (work .exit)) 0 (readingNeed shape) ⌝ }
 {
     let columns = shape.columns as usize;
-    centres(shape, image, i, centre);
+    centres(shape, image, i, centre, own);
     reset(least, nearest, columns);
     pad(shape, image, i + (shape.mask_rows as usize) - 1, last);
     carry_rows(
@@ -178,7 +178,7 @@ fn one_row(
         least,
         nearest,
     );
-    ticks(shape.cycle, centre, nearest, out, columns);
+    phases(shape.cycle, centre, nearest, out, columns);
 }
 
 // The rows from first up to end of the output, each lent in its turn, with the lines that they need.

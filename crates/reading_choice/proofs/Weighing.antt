@@ -11,9 +11,8 @@ use native.Mathlib.Nat.{mul-le-mul-right}
 use borrow.Author.Tests.{lt-ltb, le-ltb, eq-eqb, ne-eqb}
 use Rattle.lists.specs.Members.{In}
 use Rattle.lists.proofs.Members.{each-in, in-some, in-left, in-right}
-use Rattle.median.specs.Sum.{sumAt, shares, Ticks}
+use Rattle.median.specs.Sum.{sumAt, Ticks}
 use Rattle.median.specs.Choice.{rank, key, chosen}
-use Rattle.median.proofs.Sum.{shares-sum}
 use Rattle.median.proofs.Choice.{key-chosen, choose-chosen, chosen-only}
 use Rattle.median.proofs.Readings.{choose-readings}
 use Rattle.memory.specs.Memory.{noSum}
@@ -92,6 +91,20 @@ module _ {c a : ℕ} {sum : ℕ → ℕ} {zs : List ℕ} {b o : ℕ} (w : Weighe
 pub weighed-none : {c a : ℕ} {sum : ℕ → ℕ} {zs : List ℕ} {b o : ℕ} → zs ≡ [] → b ≡ noSum → o ≡ 0 → Weighed c a sum zs b o
 weighed-none n e d = rw n record { low = λ q i. absurd i; near-cycle = omega arith; found = inl (refl, e, d) }
 
+-- a reading without a sum changes nothing
+module _ {c a : ℕ} {sum : ℕ → ℕ} {zs : List ℕ} {b o : ℕ} (w : Weighed c a sum zs b o) (small : (q : ℕ) → In q zs → sum q < noSum) where
+  not-lower : (s x : ℕ) → s ≡ noSum → lowerPair s x b o ≡ false
+  not-lower s x e = go (w .found)
+    where
+      go : Unweighed zs b o ⊎ Found c a sum zs b o → lowerPair s x b o ≡ false
+      go (inl u) = rw (le-ltb s b (omega (arith, u .1)), eq-eqb s b (omega (arith, u .1)), le-ltb x o (omega (arith, u .2)))
+      go (inr f) =
+          let less : b < noSum = omega (arith, f .2, small (f .0) (f .1)) in
+          rw (le-ltb s b (omega (arith, less)), ne-eqb s b (λ d. omega (arith, less)))
+
+  pub weigh-none : (s x : ℕ) → s ≡ noSum → Weighed c a sum zs (cond (lowerPair s x b o) s b) (cond (lowerPair s x b o) x o)
+  weigh-none s x e = rw (not-lower s x e) w
+
 -- where the sums are signed numbers, the one that is kept is one
 pub weighed-signed : {c a : ℕ} {sum : ℕ → ℕ} {zs : List ℕ} {b o : ℕ} → Weighed c a sum zs b o → ((q : ℕ) → In q zs → sum q < 2 ^ 31) → b < 2 ^ 31
 weighed-signed {c} {a} {sum} {zs} {b} {o} w small = go (w .found)
@@ -100,7 +113,7 @@ weighed-signed {c} {a} {sum} {zs} {b} {o} w small = go (w .found)
     go (inl u) = omega (arith, u .1)
     go (inr f) = omega (arith, f .2, small (f .0) (f .1))
 
--- every reading is weighed: the rank that is kept is that of the chosen phase
+-- every heard reading is weighed: the rank that is kept is that of the chosen phase
 module _ (c a : ℕ) (zs : List ℕ) (ticks : Ticks c zs) (centre : In a zs) where
   ha : a < c
   ha = each-in (λ q. q < c) a zs ticks centre
@@ -112,14 +125,14 @@ module _ (c a : ℕ) (zs : List ℕ) (ticks : Ticks c zs) (centre : In a zs) whe
       let other = choose-chosen c a (λ p. sumAt c p zs) ha zs ticks (in-some a zs centre) in
       chosen-only least other ∙ choose-readings c a zs ticks centre
 
-  pub weighed-chosen : {b o : ℕ} → Weighed c a (λ q. shares c q zs) zs b o → tickOf c a o ≡ chosen c a zs
+  pub weighed-chosen : (sum : ℕ → ℕ) {b o : ℕ} → ((q : ℕ) → In q zs → sum q ≡ sumAt c q zs) → Weighed c a sum zs b o → tickOf c a o ≡ chosen c a zs
   unfolding key
-  weighed-chosen {b} {o} w = go (w .found)
+  weighed-chosen sum {b} {o} is w = go (w .found)
     where
-      go : Unweighed zs b o ⊎ Found c a (λ q. shares c q zs) zs b o → tickOf c a o ≡ chosen c a zs
+      go : Unweighed zs b o ⊎ Found c a sum zs b o → tickOf c a o ≡ chosen c a zs
       go (inl u) = absurd (subst (λ (l : List ℕ). In a l) (u .0) centre)
       go (inr f) =
           let q = f .0 in
           let low : (p : ℕ) → In p zs → sumAt c q zs * (2 * c) + rank c a q ≤ key c a (λ r. sumAt c r zs) p =
-          λ p j. rw (← (shares-sum c q zs), ← (shares-sum c p zs)) (omega (arith, ap (λ (v : ℕ). v * (2 * c)) (f .2), f .3, w .low p j)) in
+          λ p j. rw (← (is q (f .1)), ← (is p j)) (omega (arith, ap (λ (v : ℕ). v * (2 * c)) (f .2), f .3, w .low p j)) in
           rw (f .3) (tick-rank c a q ha (each-in (λ p. p < c) q zs ticks (f .1))) ∙ found-chosen q (f .1) low

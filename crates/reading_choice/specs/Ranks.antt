@@ -4,6 +4,7 @@ use mathlib.Core.Bool.{Bool, cond, _&&_, _||_}
 use mathlib.Core.List.{List}
 use lib.Dec.{ltb, leb, eqb}
 use lib.ListN.{getD}
+use Rattle.cycle.specs.Silence.{silent, isHeard}
 use Rattle.memory.specs.Memory.{noSum}
 
 -- how many ticks q lies ahead of a, in numbers of 16 bits; of two numbers that are no ticks some number
@@ -46,5 +47,9 @@ keptRank work plane rank best near j = cond (lowerAt work plane rank best near j
 unfoldable pub tickOf : ℕ → ℕ → ℕ → ℕ
 tickOf c a r = (a + cond (eqb (r % 2) 0) (r / 2) (c - r / 2)) % c
 
-abbrev pub tickAt : ℕ → List ℕ → List ℕ → ℕ → ℕ
-tickAt c centres near j = tickOf c (getD centres j 0) (getD near j 0)
+-- the phase by the centre a and the rank that is kept: where the centre is silent none is heard
+unfoldable pub phaseBy : ℕ → ℕ → ℕ → ℕ
+phaseBy c a r = cond (isHeard a) (tickOf c a r) silent
+
+abbrev pub phasesBy : ℕ → List ℕ → List ℕ → ℕ → ℕ
+phasesBy c centres near j = phaseBy c (getD centres j 0) (getD near j 0)

@@ -1,8 +1,10 @@
 // The choice of the reading engine (document 000, section 3). The readings of the windows of a row are
 // weighed one plane after the other: for each window the least sum so far is kept, with the least rank
-// among the readings that have it. After the last plane the ranks that are kept tell the phases of the row.
+// among the readings that have it; a silent reading has no sum, which changes nothing. After the last plane
+// the ranks that are kept tell the phases of the row.
 // Each pass is one loop without a branch over contiguous numbers; sums and ranks are compared as signed
 // numbers, which takes fewer packed instructions. Internal: the engine meets each `requires`.
+use cycle::SILENT;
 use cycle::least;
 use cycle::less;
 use memory::NO_SUM;
@@ -10,15 +12,16 @@ use shape::Shape;
 use std::num::wrapping_add_u16;
 use std::num::wrapping_sub_u16;
 ghost use mathlib.Core.Path.{_≡_};
-ghost use mathlib.Core.Bool.{cond};
+ghost use mathlib.Core.Bool.{true, cond};
 ghost use Prim.Native.Nat.{ℕ, _+_, _-_, _/_, _%_, _^_, _≤_, _<_};
 ghost use lib.Dec.{leb, eqb};
 ghost use lib.ListN.{length, getD};
 ghost use Rattle.refusal.specs.Limits.{longestCycle};
+ghost use Rattle.cycle.specs.Silence.{silent, isHeard, isReading};
 ghost use Rattle.memory.specs.Memory.{Changed, Signed};
 ghost use Rattle.memory.specs.Parts.{copied};
 ghost use Rattle.reading_choice.specs.Weighable.{Weighable};
-ghost use Rattle.reading_choice.specs.Ranks.{wayTo, rankOf, ranked, unweighedSum, unweighedRank, lowerPair, keptSum, keptRank, tickOf, tickAt};
+ghost use Rattle.reading_choice.specs.Ranks.{wayTo, rankOf, ranked, unweighedSum, unweighedRank, lowerPair, keptSum, keptRank, tickOf, phaseBy, phasesBy};
 
 // The cycle to add to q - a, so that it counts ticks ahead: none where q is not behind a.
 fn turn_of(cycle: u16, a: u16, q: u16) -> u16
@@ -163,15 +166,39 @@ fn tick_of(cycle: u32, centre: u32, rank: u32) -> u32
     if tick < cycle { tick } else { tick - cycle }
 }
 
-// The ticks that have the ranks, each from its own centre.
-pub fn ticks(cycle: u32, centres: &[u16], nearest: &[u32], out: &mut [u16], n: usize)
-    requires { ⌜ (cycle ≤ longestCycle) × (n ≤ length (now centres)) × (n ≤ length (now nearest)) × (n ≤ length (now out)) ⌝ }
-    requires { ⌜ ((j : ℕ) → j < n → (getD (now centres) j 0 < cycle) × (getD (now nearest) j 0 ≤ cycle)) ⌝ }
-    ensures { λ _. ⌜ Changed (now (out .entry)) (now (out .exit)) 0 n (tickAt cycle (now (centres .entry)) (now (nearest .entry))) ⌝ }
+// A heard centre, or tick 0 in place of a silent one.
+fn tick_or_0(centre: u16) -> u16
+    ensures { λ r. ⌜ r ≡ cond (isHeard centre) centre 0 ⌝ }
+{
+    if centre == SILENT { 0 } else { centre }
+}
+
+// A tick, or silent if the centre is.
+fn unless_silent(centre: u16, tick: u16) -> u16
+    ensures { λ r. ⌜ r ≡ cond (isHeard centre) tick silent ⌝ }
+{
+    if centre == SILENT { SILENT } else { tick }
+}
+
+// The phase by the centre and the rank that is kept. Where the centre is silent, so that nothing stands in for
+// it, none is heard. The tick is found in either case, so that the loop over phases has no branch.
+fn phase_by(cycle: u32, centre: u16, rank: u32) -> u16
+    requires { ⌜ (isReading cycle centre ≡ true) × (0 < cycle) × (rank ≤ cycle) × (cycle ≤ longestCycle) ⌝ }
+    ensures { λ r. ⌜ r ≡ phaseBy cycle centre rank ⌝ }
+{
+    let tick = tick_of(cycle, tick_or_0(centre) as u32, rank);
+    unless_silent(centre, tick as u16)
+}
+
+// The phases by the ranks, each from its own centre.
+pub fn phases(cycle: u32, centres: &[u16], nearest: &[u32], out: &mut [u16], n: usize)
+    requires { ⌜ (0 < cycle) × (cycle ≤ longestCycle) × (n ≤ length (now centres)) × (n ≤ length (now nearest)) × (n ≤ length (now out)) ⌝ }
+    requires { ⌜ ((j : ℕ) → j < n → (isReading cycle (getD (now centres) j 0) ≡ true) × (getD (now nearest) j 0 ≤ cycle)) ⌝ }
+    ensures { λ _. ⌜ Changed (now (out .entry)) (now (out .exit)) 0 n (phasesBy cycle (now (centres .entry)) (now (nearest .entry))) ⌝ }
 {
     let mut j = 0;
     while j < n {
-        out[j] = tick_of(cycle, centres[j] as u32, nearest[j]) as u16;
+        out[j] = phase_by(cycle, centres[j], nearest[j]);
         j += 1;
     }
 }

@@ -1,14 +1,18 @@
 // Passes over lines of readings, for the reading engine: what readings add to sums, steps, changes. Each is
-// one loop without a branch over contiguous numbers, so that it compiles to packed instructions. Internal:
-// each has a `requires`, which the engine meets.
+// one loop without a branch over contiguous numbers, so that it compiles to packed instructions. Those that
+// measure are told whether silence needs no test (`plain`). Internal: each has a `requires`, which the engine
+// meets.
+use cycle::SILENT;
 use median::share_of;
+use memory::NO_SUM;
 use std::num::wrapping_add_u32;
 use std::num::wrapping_sub_u32;
+ghost use mathlib.Core.Path.{_≡_};
 ghost use Prim.Native.Nat.{_+_, _/_, _≤_};
 ghost use lib.ListN.{length};
 ghost use Rattle.memory.specs.Memory.{Changed};
 ghost use Rattle.memory.specs.Parts.{added, summed};
-ghost use Rattle.reading_lines.specs.Passes.{between, betweenTwo, stepped, moved};
+ghost use Rattle.reading_lines.specs.Passes.{Measurable, between, betweenTwo, stepped, moved, mark, marks};
 
 // What n readings of a line gain by those of a row.
 pub fn distances(
@@ -19,13 +23,14 @@ pub fn distances(
     at: usize,
     out: &mut [u16],
     n: usize,
+    plain: bool,
 )
-    requires { ⌜ (l + n ≤ length (now own)) × (at + n ≤ length (now row)) × (n ≤ length (now out)) ⌝ }
+    requires { ⌜ Measurable plain cycle (now own) (now row) l at n × (n ≤ length (now out)) ⌝ }
     ensures { λ _. ⌜ Changed (now (out .entry)) (now (out .exit)) 0 n (between cycle (now (own .entry)) l (now (row .entry)) at) ⌝ }
 {
     let mut j = 0;
     while j < n {
-        out[j] = share_of(cycle, own[l + j], row[at + j]);
+        out[j] = share_of(cycle, own[l + j], row[at + j], plain);
         j += 1;
     }
 }
@@ -40,14 +45,15 @@ pub fn distances_to_two(
     at: usize,
     out: &mut [u16],
     n: usize,
+    plain: bool,
 )
-    requires { ⌜ (l + n ≤ length (now own)) × (at + n ≤ length (now row)) × (at + n ≤ length (now other)) × (n ≤ length (now out)) ⌝ }
+    requires { ⌜ Measurable plain cycle (now own) (now row) l at n × Measurable plain cycle (now own) (now other) l at n × (n ≤ length (now out)) ⌝ }
     ensures { λ _. ⌜ Changed (now (out .entry)) (now (out .exit)) 0 n (betweenTwo cycle (now (own .entry)) l (now (row .entry)) (now (other .entry)) at) ⌝ }
 {
     let mut j = 0;
     while j < n {
         let q = own[l + j];
-        out[j] = share_of(cycle, q, row[at + j]) + share_of(cycle, q, other[at + j]);
+        out[j] = share_of(cycle, q, row[at + j], plain) + share_of(cycle, q, other[at + j], plain);
         j += 1;
     }
 }
@@ -63,15 +69,37 @@ pub fn steps(
     at: usize,
     out: &mut [u16],
     n: usize,
+    plain: bool,
 )
-    requires { ⌜ (l + n ≤ length (now own)) × (at + n ≤ length (now entering)) × (at + n ≤ length (now leaving)) × (n ≤ length (now out)) ⌝ }
+    requires { ⌜ Measurable plain cycle (now own) (now entering) l at n × Measurable plain cycle (now own) (now leaving) l at n × (n ≤ length (now out)) ⌝ }
     ensures { λ _. ⌜ Changed (now (out .entry)) (now (out .exit)) 0 n (stepped cycle (now (own .entry)) l (now (entering .entry)) (now (leaving .entry)) at) ⌝ }
 {
     let half = cycle / 2;
     let mut j = 0;
     while j < n {
         let q = own[l + j];
-        out[j] = half + share_of(cycle, q, entering[at + j]) - share_of(cycle, q, leaving[at + j]);
+        let gain = share_of(cycle, q, entering[at + j], plain);
+        let loss = share_of(cycle, q, leaving[at + j], plain);
+        out[j] = half + gain - loss;
+        j += 1;
+    }
+}
+
+// What the sums at a reading begin at: 0, or no sum if it is silent.
+fn mark_of(q: u16) -> u32
+    ensures { λ r. ⌜ r ≡ mark q ⌝ }
+{
+    if q == SILENT { NO_SUM } else { 0 }
+}
+
+// Begins the changes of n readings of a line.
+pub fn begin(change: &mut [u32], own: &[u16], n: usize)
+    requires { ⌜ (n ≤ length (now change)) × (n ≤ length (now own)) ⌝ }
+    ensures { λ _. ⌜ Changed (now (change .entry)) (now (change .exit)) 0 n (marks (now (own .entry))) ⌝ }
+{
+    let mut j = 0;
+    while j < n {
+        change[j] = mark_of(own[j]);
         j += 1;
     }
 }

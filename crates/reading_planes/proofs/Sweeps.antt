@@ -10,7 +10,7 @@ use lib.ListN.{getD}
 use Rattle.lists.specs.Total.{totalFrom}
 use Rattle.lists.specs.Difference.{difference, adjusted}
 use Rattle.lists.proofs.Total.{total-none, total-more, total-before, total-split}
-use Rattle.lists.proofs.Difference.{difference-adjusted, difference-sum, difference-none}
+use Rattle.lists.proofs.Difference.{difference-adjusted, difference-begun, difference-sum, difference-none}
 use Rattle.shape.specs.declared.Shape.{Shape}
 use Rattle.memory.specs.Memory.{Changed}
 use Rattle.memory.specs.Parts.{zeros}
@@ -21,12 +21,7 @@ module _ (gain loss : Gain) (p : ℕ) where
   net-none : (k : ℕ) → net gain loss p k 0 ≡ 0
   net-none k = rw (total-none (gain p), total-none (loss p)) difference-none
 
-  -- one column more, behind the others or before them
-  net-more : (k n : ℕ) → adjusted (net gain loss p k n) (gain p (k + n)) (loss p (k + n)) ≡ net gain loss p k (n + 1)
-  net-more k n =
-      difference-adjusted (totalFrom (gain p) k n) (totalFrom (loss p) k n) (gain p (k + n)) (loss p (k + n))
-      ∙ rw (total-more (gain p) (λ i. i) k n, total-more (loss p) (λ i. i) k n)
-
+  -- one column more, before the others
   net-before : (k n : ℕ) → adjusted (net gain loss p (k + 1) n) (gain p k) (loss p k) ≡ net gain loss p k (n + 1)
   net-before k n =
       difference-adjusted (totalFrom (gain p) (k + 1) n) (totalFrom (loss p) (k + 1) n) (gain p k) (loss p k)
@@ -37,20 +32,28 @@ module _ (gain loss : Gain) (p : ℕ) where
   net-both : (w k m n : ℕ) → ((w + net gain loss p (k + m) n) % 2 ^ 32 + net gain loss p k m) % 2 ^ 32 ≡ (w + net gain loss p k (m + n)) % 2 ^ 32
   net-both w k m n = difference-sum w _ _ _ _ ∙ rw (total-split (gain p) (λ i. i) k m n, total-split (loss p) (λ i. i) k m n)
 
+-- one column more behind the others, where the changes were begun at w
+begun-more : (gain loss : Gain) (p w k n : ℕ)
+    → adjusted ((w + net gain loss p k n) % 2 ^ 32) (gain p (k + n)) (loss p (k + n)) ≡ (w + net gain loss p k (n + 1)) % 2 ^ 32
+begun-more gain loss p w k n =
+    difference-begun w (totalFrom (gain p) k n) (totalFrom (loss p) k n) (gain p (k + n)) (loss p (k + n))
+    ∙ rw (total-more (gain p) (λ i. i) k n, total-more (loss p) (λ i. i) k n)
+
 module _ (s : Shape) (gain loss : Gain) where
   -- ahead
-  pub ahead-none : {z₀ z : List ℕ} → Changed z₀ z 0 (s .columns + s .«mask_columns») zeros → Ahead s gain loss z 0
-  ahead-none c = record { holds = λ p h. c .holds p (omega arith) ∙ sym (net-none gain loss p p) }
+  module _ (first : ℕ → ℕ) where
+    pub ahead-none : {z₀ z : List ℕ} → ((p : ℕ) → first p < 2 ^ 32) → Changed z₀ z 0 (s .columns + s .«mask_columns») first → Ahead s first gain loss z 0
+    ahead-none fits c = record { holds = λ p h. c .holds p (omega arith) ∙ omega (arith, net-none gain loss p p, fits p) }
 
-  pub ahead-more : {z₀ z : List ℕ} (m : ℕ) → m < s .«mask_columns» → Ahead s gain loss z₀ m
-      → Counted gain loss 0 m (s .columns + (s .«mask_columns» - 1 - m)) z₀ z → Ahead s gain loss z (m + 1)
-  ahead-more {z₀} {z} m h a c = record { holds = at }
-    where
-      at : (p : ℕ) → p < s .columns + s .«mask_columns» - (m + 1) → getD z (0 + p) 0 ≡ net gain loss p p (m + 1)
-      at p l =
-          let e : 0 + p ≡ p = omega arith in
-          let d : m + p ≡ p + m = omega arith in
-          c .holds p (omega arith) ∙ rw (a .holds p (omega arith), e, d) (net-more gain loss p p m)
+    pub ahead-more : {z₀ z : List ℕ} (m : ℕ) → m < s .«mask_columns» → Ahead s first gain loss z₀ m
+        → Counted gain loss 0 m (s .columns + (s .«mask_columns» - 1 - m)) z₀ z → Ahead s first gain loss z (m + 1)
+    ahead-more {z₀} {z} m h a c = record { holds = at }
+      where
+        at : (p : ℕ) → p < s .columns + s .«mask_columns» - (m + 1) → getD z (0 + p) 0 ≡ (first p + net gain loss p p (m + 1)) % 2 ^ 32
+        at p l =
+            let e : 0 + p ≡ p = omega arith in
+            let d : m + p ≡ p + m = omega arith in
+            c .holds p (omega arith) ∙ rw (a .holds p (omega arith), e, d) (begun-more gain loss p (first p) p m)
 
   -- behind
   pub behind-none : {z₀ z : List ℕ} → Changed z₀ z 0 (s .columns + s .«mask_columns») zeros → Behind s gain loss z 0
@@ -83,13 +86,14 @@ module _ (s : Shape) (gain loss : Gain) where
             let past : suc l ≤ m = omega arith in
             holds-after c _ _ _ (omega (arith, mul-le-mul-right (s .columns) past)) (r .holds m (omega arith) g)
 
-    -- what the changes hold at a plane's places after its turn
-    pub ahead-front : {z : List ℕ} (l m : ℕ) → l + m ≡ s .«mask_columns» → Ahead s gain loss z m
-        → (j : ℕ) → j < s .columns → (start l j + getD z (l + j) 0) % 2 ^ 32 ≡ front s start gain loss l j
-    ahead-front {z} l m h a j g =
+    -- what the changes, added to x, make at a plane's places after its turn
+    pub ahead-front : (first : ℕ → ℕ) {z : List ℕ} (l m : ℕ) → l + m ≡ s .«mask_columns» → Ahead s first gain loss z m
+        → (x j : ℕ) → j < s .columns → x + first (l + j) ≡ start l j → (x + getD z (l + j) 0) % 2 ^ 32 ≡ front s start gain loss l j
+    ahead-front first {z} l m h a x j g begun =
         let e : s .«mask_columns» - l ≡ m = omega arith in
         let d : 0 + (l + j) ≡ l + j = omega arith in
-        rw (e, ← (a .holds (l + j) (omega arith)), d)
+        let here : getD z (l + j) 0 ≡ (first (l + j) + net gain loss (l + j) (l + j) m) % 2 ^ 32 = rw d at (a .holds (l + j) (omega arith)) in
+        rw (e, ← begun, here) (omega arith)
 
     -- mask column 0 has no columns behind
     front-first : (j : ℕ) → front s start gain loss 0 j ≡ whole s start gain loss 0 j

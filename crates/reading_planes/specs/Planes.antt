@@ -11,6 +11,7 @@ use Rattle.shape.specs.declared.Shape.{Shape}
 use Rattle.median.specs.Sum.{shares}
 use Rattle.memory.specs.Memory.{Holds}
 use Rattle.window.specs.Window.{padded}
+use Rattle.reading_lines.specs.Passes.{marks}
 
 -- what the reading at a place p of a line gains, or loses, by a column k: `ofLine` by one row, and by all mask rows from row i on
 abbrev pub Gain : Type 0
@@ -30,9 +31,9 @@ net gain loss p k n = difference (totalFrom (gain p) k n) (totalFrom (loss p) k 
 pub record Counted (gain loss : Gain) (start at n : ℕ) (change₀ change : List ℕ) : Type 0 where
   pub holds : Holds change start n (λ j. adjusted (getD change₀ (start + j) 0) (gain (start + j) (at + j)) (loss (start + j) (at + j)))
 
--- the changes after m turns of the sweep ahead: at place p the m columns from p on are counted
-pub record Ahead (s : Shape) (gain loss : Gain) (change : List ℕ) (m : ℕ) : Type 0 where
-  pub holds : Holds change 0 (s .columns + s .«mask_columns» - m) (λ p. net gain loss p p m)
+-- the changes after m turns of the sweep ahead, begun at `first`: at place p the m columns from p on are counted
+pub record Ahead (s : Shape) (first : ℕ → ℕ) (gain loss : Gain) (change : List ℕ) (m : ℕ) : Type 0 where
+  pub holds : Holds change 0 (s .columns + s .«mask_columns» - m) (λ p. (first p + net gain loss p p m) % 2 ^ 32)
 
 -- after l turns of the sweep behind: at place l + j the l columns before it
 pub record Behind (s : Shape) (gain loss : Gain) (change : List ℕ) (l : ℕ) : Type 0 where
@@ -45,6 +46,10 @@ planes s = s .«mask_columns» * s .columns
 -- plane l of the planes at base holds f 0, f 1, ..
 abbrev pub Plane : Shape → List ℕ → ℕ → ℕ → (ℕ → ℕ) → Type 0
 Plane s w base l f = Holds w (base + l * s .columns) (s .columns) f
+
+-- what the numbers of the planes begin at if they are built: the mark of their reading
+abbrev pub marked : List ℕ → Gain
+marked own l j = marks own (l + j)
 
 -- what it held
 abbrev pub held : Shape → List ℕ → ℕ → Gain

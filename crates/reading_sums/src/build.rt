@@ -1,9 +1,10 @@
 // Planes built afresh, from every row under the mask. Functions here take more than ten parameters: lines are
 // lent one by one, since a struct of lent slices cannot be had.
 use lines::pad;
+use median::is_short;
 use memory::add;
-use memory::clear;
 use memory::put;
+use reading_lines::begin;
 use reading_lines::distances;
 use reading_lines::distances_to_two;
 use reading_lines::grow;
@@ -13,8 +14,8 @@ ghost use lib.ListN.{length};
 ghost use Rattle.refusal.specs.Limits.{longestCycle};
 ghost use Rattle.memory.specs.Memory.{Changed, Outside};
 ghost use Rattle.window.specs.Ready.{Ready};
-ghost use Rattle.lines.specs.Lines.{IsLine, Line};
-ghost use Rattle.reading_planes.specs.Planes.{ofRows, none, Counted, Behind, Fronts, planes, gained};
+ghost use Rattle.lines.specs.Lines.{IsLine, Reads, Line};
+ghost use Rattle.reading_planes.specs.Planes.{ofRows, none, marked, Counted, Behind, Fronts, planes, gained};
 
 // Counts, over all mask rows of row i, the columns from `at` on at the places from `start` on: two rows at a
 // time, and `last`, the last one, alone, since the mask rows are odd in number.
@@ -32,23 +33,24 @@ fn count_rows(
     step: &mut [u16],
 )
     requires { ⌜ Ready longestCycle shape (now image) × (i < shape .rows) × (start + at < shape .«mask_columns») ⌝ }
-    requires { ⌜ IsLine (now own) × Line shape (now image) (i + shape .«mask_rows» - 1) (now last) ⌝ }
+    requires { ⌜ Reads shape (now own) × Line shape (now image) (i + shape .«mask_rows» - 1) (now last) ⌝ }
     requires { ⌜ IsLine (now row) × IsLine (now other) × IsLine (now change) × IsLine (now step) ⌝ }
     ensures { λ _. ⌜ Counted (ofRows shape (now (image .entry)) i (now (own .entry))) none start at (shape .columns + (shape .«mask_columns» - 1 - (start + at)))
         (now (change .entry)) (now (change .exit)) ⌝ }
 {
     let cycle = shape.cycle as u16;
+    let plain = is_short(shape.cycle);
     let rows = shape.mask_rows as usize;
     let n = shape.columns as usize + (shape.mask_columns as usize - 1 - (start + at));
     let mut k = 0;
     while k + 1 < rows {
         pad(shape, image, i + k, row);
         pad(shape, image, i + k + 1, other);
-        distances_to_two(cycle, own, start, row, other, at, step, n);
+        distances_to_two(cycle, own, start, row, other, at, step, n, plain);
         grow(change, start, step, n);
         k += 2;
     }
-    distances(cycle, own, start, last, at, step, n);
+    distances(cycle, own, start, last, at, step, n, plain);
     grow(change, start, step, n);
 }
 
@@ -67,14 +69,14 @@ pub fn build_ahead(
     step: &mut [u16],
 )
     requires { ⌜ Ready longestCycle shape (now image) × (i < shape .rows) × (base + planes shape ≤ length (now work)) ⌝ }
-    requires { ⌜ IsLine (now own) × Line shape (now image) (i + shape .«mask_rows» - 1) (now last) ⌝ }
+    requires { ⌜ Reads shape (now own) × Line shape (now image) (i + shape .«mask_rows» - 1) (now last) ⌝ }
     requires { ⌜ IsLine (now row) × IsLine (now other) × IsLine (now change) × IsLine (now step) ⌝ }
-    ensures { λ _. ⌜ Fronts shape (now (work .exit)) base none (ofRows shape (now (image .entry)) i (now (own .entry))) none 0 ⌝ }
+    ensures { λ _. ⌜ Fronts shape (now (work .exit)) base (marked (now (own .entry))) (ofRows shape (now (image .entry)) i (now (own .entry))) none 0 ⌝ }
     ensures { λ _. ⌜ Outside (now (work .entry)) (now (work .exit)) base (planes shape) ⌝ }
 {
     let columns = shape.columns as usize;
     let mask = shape.mask_columns as usize;
-    clear(change, 0, columns + mask);
+    begin(change, own, columns + mask);
     let mut m = 0;
     while m < mask {
         let l = mask - 1 - m;
@@ -100,7 +102,7 @@ pub fn build_on(
     step: &mut [u16],
 )
     requires { ⌜ Ready longestCycle shape (now image) × (i < shape .rows) × (l + 1 < shape .«mask_columns») × (plane + shape .columns ≤ length (now work)) ⌝ }
-    requires { ⌜ IsLine (now own) × Line shape (now image) (i + shape .«mask_rows» - 1) (now last) ⌝ }
+    requires { ⌜ Reads shape (now own) × Line shape (now image) (i + shape .«mask_rows» - 1) (now last) ⌝ }
     requires { ⌜ IsLine (now row) × IsLine (now other) × IsLine (now change) × IsLine (now step) ⌝ }
     requires { ⌜ Behind shape (ofRows shape (now image) i (now own)) none (now change) l ⌝ }
     ensures { λ _. ⌜ Behind shape (ofRows shape (now (image .entry)) i (now (own .entry))) none (now (change .exit)) (l + 1) ⌝ }

@@ -1,5 +1,5 @@
 // Planes carried down by a row: `entering` comes in below the windows and `leaving` goes out above. The
-// changes that this makes are held modulo 2^32.
+// changes that this makes are held modulo 2^32. `plain` says that silence needs no test.
 use memory::clear;
 use reading_lines::move_add;
 use reading_lines::move_on;
@@ -25,9 +25,10 @@ pub fn carry_ahead(
     leaving: &[u16],
     change: &mut [u32],
     step: &mut [u16],
+    plain: bool,
 )
     requires { ⌜ Clear (shapeRules longestCycle shape) × (base + planes shape ≤ length (now work)) ⌝ }
-    requires { ⌜ CarryLines (now own) (now entering) (now leaving) (now change) (now step) ⌝ }
+    requires { ⌜ CarryLines plain shape (now own) (now entering) (now leaving) (now change) (now step) ⌝ }
     ensures { λ _. ⌜ Fronts shape (now (work .exit)) base (held shape (now (work .entry)) base)
         (ofLine (shape .cycle) (now (own .entry)) (now (entering .entry))) (ofLine (shape .cycle) (now (own .entry)) (now (leaving .entry))) 0 ⌝ }
     ensures { λ _. ⌜ Outside (now (work .entry)) (now (work .exit)) base (planes shape) ⌝ }
@@ -48,6 +49,7 @@ pub fn carry_ahead(
             m,
             step,
             columns + l,
+            plain,
         );
         move_on(change, 0, step, 0, half, l);
         move_add(change, l, step, l, half, work, base + l * columns, columns);
@@ -66,9 +68,10 @@ pub fn carry_on(
     leaving: &[u16],
     change: &mut [u32],
     step: &mut [u16],
+    plain: bool,
 )
     requires { ⌜ Clear (shapeRules longestCycle shape) × (l + 1 < shape .«mask_columns») × (plane + shape .columns ≤ length (now work)) ⌝ }
-    requires { ⌜ CarryLines (now own) (now entering) (now leaving) (now change) (now step) ⌝ }
+    requires { ⌜ CarryLines plain shape (now own) (now entering) (now leaving) (now change) (now step) ⌝ }
     requires { ⌜ Behind shape (ofLine (shape .cycle) (now own) (now entering)) (ofLine (shape .cycle) (now own) (now leaving)) (now change) l ⌝ }
     ensures { λ _. ⌜ Behind shape (ofLine (shape .cycle) (now (own .entry)) (now (entering .entry))) (ofLine (shape .cycle) (now (own .entry)) (now (leaving .entry)))
         (now (change .exit)) (l + 1) ⌝ }
@@ -87,6 +90,7 @@ pub fn carry_on(
         0,
         step,
         columns + rest,
+        plain,
     );
     move_add(change, l + 1, step, 0, half, work, plane, columns);
     move_on(change, l + 1 + columns, step, columns, half, rest);

@@ -61,10 +61,11 @@ module _ {s : Shape} {image : List ℕ} {i a base : ℕ} {gain loss : Gain} wher
 module _ {s : Shape} {image : List ℕ} {i k l base plane : ℕ} {gain loss : Gain} {w change : List ℕ} (ready : Ready longestCycle s image)
     (hi : i < s .rows) (hk : k < s .«mask_rows») (hl : l < s .«mask_columns») (r : Sweeping s image i (i + k) base gain loss w change l)
     (e : plane ≡ base + l * s .columns) {least nearest : List ℕ} (x : RowWeighed s image i k l least nearest) where
-  pub weigh-signed : Signed (copied w plane) (s .columns) × Signed (copied least 0) (s .columns) × Signed (copied nearest 0) (s .columns)
-  weigh-signed =
+  pub weigh-signed : {own : List ℕ} → Line s image (i + k) own
+      → Signed (copied w plane) (s .columns) × Signed (copied least 0) (s .columns) × Signed (copied nearest 0) (s .columns)
+  weigh-signed y =
       let kept = row-signed ready hi hk (omega arith) x in
-      (plane-signed ready hi hk hl w plane (sweeping-plane r e), kept .0, kept .1)
+      (plane-signed ready hi hk hl w plane y (sweeping-plane r e), kept .0, kept .1)
 
   pub weigh-done : {own centres least′ nearest′ : List ℕ} → Line s image (i + k) own → Centres s image i centres
       → Changed least least′ 0 (s .columns) (keptSum w plane (ranked (s .cycle) centres own l) least nearest)

@@ -18,7 +18,7 @@ use Rattle.lines.specs.Lines.{Line, Centres}
 use Rattle.lines.specs.Rows.{Given}
 use Rattle.lines.proofs.Given.{given-kept}
 use Rattle.reading_lines.specs.Passes.{ofLine}
-use Rattle.reading_planes.specs.Planes.{Gain, ofRows, none, Behind, Fronts, held, gained, planes}
+use Rattle.reading_planes.specs.Planes.{Gain, ofRows, none, marked, Behind, Fronts, held, gained, planes}
 use Rattle.reading_planes.specs.Sums.{place, LineSums}
 use Rattle.reading_planes.proofs.Sums.{plane-within, sizes, row-inside, sum-built, sum-from-above}
 use Rattle.reading_planes.proofs.Ring.{place-room, outside-at}
@@ -94,11 +94,11 @@ module _ {s : Shape} {image own centres : List ℕ} {i k base size : ℕ} (r : L
     }
 
     -- built afresh
-    pub turn-built : Fronts s w₀ base none (ofRows s image i own) none 0 → length w₀ ≡ size
+    pub turn-built : Fronts s w₀ base (marked own) (ofRows s image i own) none 0 → length w₀ ≡ size
         → Turn s image own centres i k base (ofRows s image i own) none w₀ w₀ change step least nearest 0 0 base
     turn-built f e =
         turn-first
-        (sweeping-first none (omega (arith, laid-sizes .mask-columns-odd))
+        (sweeping-first (marked own) (omega (arith, laid-sizes .mask-columns-odd))
         (λ m j h g. sum-built (r .given .ready) (position-inside (r .given) (r .row) (r .mask-row)) (r .line) m j h g (r .row)) f cleared) e
 
     -- or carried, from what the planes held in the row before
@@ -118,7 +118,7 @@ module _ {s : Shape} {image own centres : List ℕ} {i k base : ℕ} {gain loss 
       → Weighable s w plane l own centres step least nearest
   weigh-asked t =
       let r = t .laid in
-      let signed = weigh-signed (r .given .ready) (r .row) (r .mask-row) (t .within) (t .sweeping) (t .plane-at) (t .weighed) in
+      let signed = weigh-signed (r .given .ready) (r .row) (r .mask-row) (t .within) (t .sweeping) (t .plane-at) (t .weighed) (r .line) in
       record {
         tests = r .given .ready .shape;
         inside = t .within;

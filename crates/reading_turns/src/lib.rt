@@ -1,7 +1,9 @@
 // One mask row's turn in a row of the reading engine's output: its planes are carried or built, and each is
 // weighed as soon as it has its sums, while it is in the cache. Two functions take more than ten parameters:
 // lines are lent one by one, since a struct of lent slices cannot be had. Internal: the tests are the caller's.
+use lines::all_heard;
 use lines::pad;
+use median::is_short;
 use memory::clear;
 use reading_choice::weigh;
 use reading_planes::place_of;
@@ -11,17 +13,20 @@ use reading_sums::carry_ahead;
 use reading_sums::carry_on;
 use shape::Shape;
 ghost use mathlib.Core.Path.{_≡_};
+ghost use mathlib.Core.Bool.{true};
 ghost use Prim.Native.Nat.{_+_, _-_, _*_, _<_};
 ghost use lib.ListN.{length};
 ghost use Rattle.refusal.specs.Limits.{longestCycle};
+ghost use Rattle.refusal.specs.Outcome.{Clear};
 ghost use Rattle.shape.specs.Need.{readingNeed};
-ghost use Rattle.shape.specs.Rules.{reach};
+ghost use Rattle.shape.specs.Rules.{reach, shapeRules};
 ghost use Rattle.memory.specs.Memory.{Outside};
 ghost use Rattle.window.specs.Ready.{Ready};
 ghost use Rattle.lines.specs.Lines.{IsLine, Line, Centres};
 ghost use Rattle.lines.specs.Rows.{Given};
 ghost use Rattle.reading_planes.specs.Planes.{planes};
 ghost use Rattle.reading_planes.specs.Sums.{place, LineSums};
+ghost use Rattle.reading_sums.specs.CarryLines.{Plain};
 ghost use Rattle.reading_choice.specs.Weighed.{RowWeighed};
 ghost use Rattle.reading_turns.specs.Scratch.{Scratch};
 
@@ -32,6 +37,19 @@ fn lay_line(shape: Shape, image: &[u16], position: usize, own: &mut [u16]) -> us
 {
     pad(shape, image, position, own);
     place_of(shape, position)
+}
+
+// Whether silence needs no test where the readings of a line are measured against those of the two rows: the
+// cycle is short, or all are heard.
+fn is_plain(shape: Shape, own: &[u16], entering: &[u16], leaving: &[u16]) -> bool
+    requires { ⌜ Clear (shapeRules longestCycle shape) × IsLine (now own) × IsLine (now entering) × IsLine (now leaving) ⌝ }
+    ensures { λ r. ⌜ (r ≡ true → Plain shape (now (own .entry)) (now (entering .entry)) × Plain shape (now (own .entry)) (now (leaving .entry))) ⌝ }
+{
+    if is_short(shape.cycle) {
+        return true;
+    }
+    let n = (shape.columns as usize) + (shape.mask_columns as usize) - 1;
+    all_heard(own, n) & all_heard(entering, n) & all_heard(leaving, n)
 }
 
 // Mask row k of row i, from its sums in the row before, and weighed.
@@ -61,13 +79,35 @@ pub fn stay(
     let columns = shape.columns as usize;
     let mask = shape.mask_columns as usize;
     let mut plane = lay_line(shape, image, i + k, own);
-    carry_ahead(shape, work, plane, own, entering, leaving, change, step);
+    let plain = is_plain(shape, own, entering, leaving);
+    carry_ahead(
+        shape,
+        work,
+        plane,
+        own,
+        entering,
+        leaving,
+        change,
+        step,
+        plain,
+    );
     clear(change, 0, columns + mask);
     weigh(shape, work, plane, 0, own, centres, step, least, nearest);
     let mut l = 0;
     while l + 1 < mask {
         plane += columns;
-        carry_on(shape, work, plane, l, own, entering, leaving, change, step);
+        carry_on(
+            shape,
+            work,
+            plane,
+            l,
+            own,
+            entering,
+            leaving,
+            change,
+            step,
+            plain,
+        );
         l += 1;
         weigh(shape, work, plane, l, own, centres, step, least, nearest);
     }

@@ -16,7 +16,7 @@ use Rattle.refusal.specs.Limits.{longestCycle}
 use Rattle.refusal.specs.Outcome.{Rule, Clear}
 use Rattle.refusal.proofs.Outcome.{clear-join, clear-split}
 use Rattle.cycle.specs.Calls.{cycleRules, readingRule}
-use Rattle.cycle.specs.Distance.{isReading}
+use Rattle.cycle.specs.Silence.{isReading}
 use Rattle.shape.specs.Rules.{sizeRules, maskRules, reflectionRules, shapeRules, area, bufferRule}
 use Rattle.record_format.specs.Layout.{bodyOf, cycleFieldAt, sizeFieldAt, maskFieldAt, numbersLength, fieldLength}
 use Rattle.record_format.specs.Fields.{cycleTag, sizeTag, maskTag, rowTag, endTag}

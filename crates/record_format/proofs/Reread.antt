@@ -13,7 +13,7 @@ use Rattle.lists.proofs.Has.{Has, has-whole, has-taken, has-join, has-none, has
 use Rattle.refusal.specs.Limits.{longestCycle}
 use Rattle.refusal.specs.Outcome.Outcome.{accepted}
 use Rattle.refusal.proofs.Outcome.{clear-join, clear-accepted}
-use Rattle.cycle.specs.Distance.{isReading}
+use Rattle.cycle.specs.Silence.{isReading}
 use Rattle.shape.specs.Rules.{shapeRules, area, rowOf}
 use Rattle.record_format.specs.Layout.{bodyOf, cycleFieldAt, sizeFieldAt, maskFieldAt, maskRowsAt, maskColumnsAt, rowFieldsAt, numbersLength}
 use Rattle.record_format.specs.Layout.{fieldLength}

@@ -10,7 +10,7 @@ use Rattle.lists.specs.First.{firstBad}
 use Rattle.refusal.specs.Limits.{longestCycle, mostColumns}
 use Rattle.refusal.specs.Outcome.{Clear}
 use Rattle.refusal.proofs.Outcome.{clear-split}
-use Rattle.cycle.specs.Distance.{isReading}
+use Rattle.cycle.specs.Silence.{isReading}
 use Rattle.shape.specs.declared.Shape.{Shape}
 use Rattle.shape.specs.Rules.{shapeRules, area}
 use Rattle.shape.proofs.Accepted.{Accepted, shape-clear}

@@ -19,7 +19,7 @@ use Rattle.refusal.specs.Limits.{longestCycle}
 use Rattle.refusal.specs.Outcome.{Rule, Clear}
 use Rattle.refusal.specs.Outcome.Outcome.{accepted, refused}
 use Rattle.refusal.proofs.Outcome.{clear-split, clear-accepted, due-refused}
-use Rattle.cycle.specs.Distance.{isReading}
+use Rattle.cycle.specs.Silence.{isReading}
 use Rattle.shape.specs.declared.Shape.{Shape}
 use Rattle.shape.specs.Rules.{shapeRules, maskRules, reflectionRules, bufferRule, area, rowOf}
 use Rattle.record_format.specs.Layout.{bodyOf, cycleFieldAt, cycleAt, sizeFieldAt, rowsAt, columnsAt, maskFieldAt, maskRowsAt, maskColumnsAt}

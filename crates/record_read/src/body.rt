@@ -1,6 +1,7 @@
 // The tests of a record's row fields and of its end field.
 use crate::head::field_verdict;
 use crate::head::mask_due;
+use cycle::next_of;
 use record_format::END_TAG;
 use record_format::ROW_TAG;
 use record_format::layout::HEAD_LENGTH;
@@ -18,7 +19,7 @@ ghost use lib.ListN.{length};
 ghost use Rattle.lists.specs.First.{firstBad};
 ghost use Rattle.lists.specs.Joined.{joined};
 ghost use Rattle.refusal.specs.Outcome.{firstDue, verdict};
-ghost use Rattle.cycle.specs.Distance.{isReading};
+ghost use Rattle.cycle.specs.Silence.{isReading};
 ghost use Rattle.record_format.specs.Layout.{numbersLength};
 ghost use Rattle.record_format.specs.Fields.{numbersAt};
 ghost use Rattle.record_format.specs.Reading.{rowsIn, shapeIn, rowAt, endAt};
@@ -32,7 +33,7 @@ fn first_bad(bytes: &[u8], at: usize, n: usize, cycle: u32) -> usize
 {
     let mut k: usize = 0;
     while k < n {
-        if cycle <= number_at(bytes, at + NUMBER_LENGTH * k) as u32 {
+        if cycle < next_of(number_at(bytes, at + NUMBER_LENGTH * k)) as u32 {
             return k;
         }
         k += 1;

@@ -16,7 +16,7 @@ use Rattle.lists.proofs.Stores.{front-taken, front-room}
 use Rattle.refusal.specs.Outcome.{Outcome, Clear, firstDue, refusal, andThen}
 use Rattle.refusal.specs.Outcome.Outcome.{accepted, refused}
 use Rattle.refusal.proofs.Outcome.{accepted-clear, accepted-value, after-accepted}
-use Rattle.cycle.specs.Distance.{isReading}
+use Rattle.cycle.specs.Silence.{isReading}
 use Rattle.cycle.specs.Calls.{rowRules}
 use Rattle.shape.specs.Rules.{area, rowOf}
 use Rattle.shape.specs.declared.Shape.{Shape}

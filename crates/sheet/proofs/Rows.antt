@@ -4,7 +4,6 @@ use mathlib.Core.Path.{_≡_, ap, sym, _∙_}
 use mathlib.Core.Bool.{true}
 use mathlib.Core.List.{List, _++_}
 use native.Mathlib.Omega.{arith}
-use borrow.Author.Tests.{lt-ltb}
 use lib.ListN.{length, take, drop, getD, length-take, length-drop}
 use lib.Seq.{ext-getD, getD-take, getD-drop}
 use Rattle.lists.specs.Tabulate.{tabulate, written}
@@ -15,16 +14,15 @@ use Rattle.lists.proofs.First.{good-all}
 use Rattle.lists.proofs.Written.{written-inside, length-written}
 use Rattle.refusal.specs.Limits.{longestCycle}
 use Rattle.refusal.specs.Outcome.{Clear}
-use Rattle.cycle.specs.Distance.{isReading}
+use Rattle.cycle.specs.Silence.{isReading}
 use Rattle.cycle.specs.Calls.{rowRules}
 use Rattle.cycle.proofs.Accepted.{clear-drift}
 use Rattle.shape.specs.Rules.{area, rowOf}
 use Rattle.shape.specs.declared.Shape.{Shape}
-use Rattle.median.proofs.Choice.{chosen-below}
 use Rattle.window.specs.Ready.{Ready}
-use Rattle.window.specs.Phase.{phase, phaseAt}
-use Rattle.window.proofs.Window.{sizes, centre-below}
-use Rattle.window.proofs.Phase.{phase-at}
+use Rattle.window.specs.Phase.{phaseAt}
+use Rattle.window.proofs.Window.{sizes}
+use Rattle.window.proofs.Phase.{phase-at, phase-reading}
 use Rattle.sheet_lines.specs.Lines.{headLine, rowLine, imageLines}
 use Rattle.sheet.specs.Sheet.{filteredImage}
 
@@ -66,10 +64,9 @@ module _ {limit : ℕ} {s : Shape} {image : List ℕ} (ready : Ready limit s ima
       → imageLines s (written (phaseAt s image) (0 * s .columns) (s .rows * s .columns) output) ≡ imageLines s (filteredImage s image)
   output-lines output room = lines-cong s _ (filteredImage s image) (λ i h. output-row output room i h ∙ sym (filtered-row i h))
 
-  -- every phase is a tick
-  phase-tick : (i j : ℕ) → i < s .rows → j < s .columns → isReading (s .cycle) (phaseAt s image (i * s .columns + j)) ≡ true
-  unfolding phase
-  phase-tick i j hi hj = rw (phase-at s image i j hj) (lt-ltb _ (s .cycle) (chosen-below (s .cycle) _ _ (centre-below ready small i j hi hj)))
+  -- every phase is a reading
+  phase-good : (i j : ℕ) → i < s .rows → j < s .columns → isReading (s .cycle) (phaseAt s image (i * s .columns + j)) ≡ true
+  phase-good i j hi hj = rw (phase-at s image i j hj) (phase-reading ready small i j hi hj)
 
   pub output-phases : (output : List ℕ) → area s ≤ length output → (i : ℕ) → i < s .rows
       → Clear (rowRules (s .cycle) (rowOf (s .columns) (written (phaseAt s image) (0 * s .columns) (s .rows * s .columns) output) i))
@@ -78,10 +75,10 @@ module _ {limit : ℕ} {s : Shape} {image : List ℕ} (ready : Ready limit s ima
     cycle-fits = omega (arith, sizes ready small .cycle-fits);
     some = omega (arith, length-tabulate (phaseAt s image) (i * s .columns) (s .columns), sizes ready small .columns-some);
     short = omega (arith, length-tabulate (phaseAt s image) (i * s .columns) (s .columns), sizes ready small .columns-fit);
-    good = good-all (isReading (s .cycle)) _ (each-tabulate (λ y. isReading (s .cycle) y ≡ true) (phaseAt s image) (i * s .columns) (s .columns) tick);
+    good = good-all (isReading (s .cycle)) _ (each-tabulate (λ y. isReading (s .cycle) y ≡ true) (phaseAt s image) (i * s .columns) (s .columns) good);
   }))
     where
-      tick : (k : ℕ) → i * s .columns ≤ k → k < i * s .columns + s .columns → isReading (s .cycle) (phaseAt s image k) ≡ true
-      tick k a b =
+      good : (k : ℕ) → i * s .columns ≤ k → k < i * s .columns + s .columns → isReading (s .cycle) (phaseAt s image k) ≡ true
+      good k a b =
           let e : i * s .columns + (k - i * s .columns) ≡ k = omega arith in
-          rw e at (phase-tick i (k - i * s .columns) h (omega arith))
+          rw e at (phase-good i (k - i * s .columns) h (omega arith))

@@ -6,13 +6,12 @@ use mathlib.Core.List.{List, [], _∷_}
 use native.Mathlib.Omega.{arith}
 use native.Mathlib.Decide.{decLe}
 use native.Mathlib.Nat.{mul-le-mul-left, mul-le-mul-right}
-use borrow.Author.Tests.{ltb-true}
 use lib.ListN.{length, drop, length-append, length-take}
 use Rattle.lists.specs.Members.{Each}
 use Rattle.lists.specs.Joined.{joined}
 use Rattle.lists.proofs.First.{all-good}
 use Rattle.refusal.specs.Limits.{longestCycle, mostRows, mostColumns, mostBytes}
-use Rattle.cycle.specs.Distance.{isReading}
+use Rattle.cycle.specs.Silence.{isReading}
 use Rattle.cycle.specs.Step.{drift}
 use Rattle.shape.specs.declared.Shape.{Shape}
 use Rattle.text.specs.Text.{decimal}
@@ -20,9 +19,11 @@ use Rattle.text.proofs.TextLaws.{decimal-short, decimal-most, signed-short, sig
 use Rattle.refusal.specs.Outcome.{Clear}
 use Rattle.cycle.specs.Calls.{rowRules}
 use Rattle.cycle.proofs.Accepted.{drift-clear}
+use Rattle.cycle.proofs.SilenceLaws.{heard-not, heard-case, reading-case}
 use Rattle.cycle.proofs.Sizes.{drift-size}
 use Rattle.shape.specs.Rules.{rowOf}
-use Rattle.sheet_lines.specs.Lines.{mostText, counted, refusalLine, headLine, phaseWords, rowLine, imageLines}
+use Rattle.sheet_lines.specs.Lines.{mostText, counted, refusalLine, headLine, phaseWord, phaseWords, rowLine, imageLines}
+use Rattle.sheet_lines.proofs.WordLaws.{word-silent, word-heard}
 
 -- a word and a number, whatever the number is
 pub counted-most : (word : List ℕ) (n : ℕ) → length (counted word n) ≤ length word + 20
@@ -39,11 +40,15 @@ head-short s =
     let mask-columns = decimal-most (s .«mask_columns») in
     simp length-append (omega (arith, decimal-most (s .cycle), decimal-most (s .rows), decimal-most (s .columns)))
 
+-- a phase has at most n bytes if its number has: a silent one has 1
+phase-short : (p : ℕ) {n : ℕ} → length (decimal p) ≤ n → 1 ≤ n → length (phaseWord p) ≤ n
+phase-short p number sign = heard-case p (λ h. rw (word-heard p (heard-not p h)) number) (λ e. rw (word-silent p e) sign)
+
 -- the phases of a row, and its line, whatever its phases are
 pub words-most : (row : List ℕ) → length (phaseWords row) ≤ 21 * length row
 unfolding phaseWords
 words-most [] = omega arith
-words-most (p ∷ row) = simp length-append (omega (arith, decimal-most p, words-most row))
+words-most (p ∷ row) = simp length-append (omega (arith, phase-short p (decimal-most p) (omega arith), words-most row))
 
 pub row-most : (c i : ℕ) (row : List ℕ) → length (rowLine c i row) ≤ 54 + 21 * length row
 row-most c i row = simp length-append (omega (arith, decimal-most i, words-most row, signed-most (drift c row)))
@@ -54,8 +59,8 @@ module _ {c : ℕ} (fits : c ≤ longestCycle) where
   unfolding phaseWords
   words-short [] e = omega arith
   words-short (p ∷ row) e =
-      let h = ltb-true p c (e .0) in
-      simp length-append (omega (arith, decimal-short p 4 (omega arith), words-short row (e .1)))
+      let small : p < 10 ^ 5 = reading-case c p (e .0) (λ l. omega arith) (λ d. omega arith) in
+      simp length-append (omega (arith, phase-short p (decimal-short p 4 small) (omega arith), words-short row (e .1)))
 
   -- the line of a row
   row-short : (i : ℕ) (row : List ℕ) (k : ℕ) → i < 10000 → Each (λ y. isReading c y ≡ true) row → length row * 32767 < 10 ^ (k + 1)

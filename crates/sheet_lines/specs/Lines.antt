@@ -1,12 +1,15 @@
--- Document 01, "The bench sheet": the lines that are printed, as bytes.
+-- Document 01, "The bench sheet": the lines that are printed, as bytes. A silent phase as in document 02, T-01.
 use Prim.Native.Nat.{ℕ}
+use mathlib.Core.Bool.{cond}
 use mathlib.Core.List.{List, [], _∷_, _++_}
 use Rattle.lists.specs.Joined.{joined}
+use Rattle.cycle.specs.Silence.{isHeard}
 use Rattle.cycle.specs.Step.{drift}
 use Rattle.shape.specs.declared.Shape.{Shape}
 use Rattle.shape.specs.Rules.{rowOf}
 use Rattle.text.specs.Text.{decimal, signed}
-use Rattle.sheet_lines.specs.Words.{refusedWord, atWord, cycleWord, rowsWord, columnsWord, maskWord, space, rowWord, colon, driftWord, lineEnd}
+use Rattle.sheet_lines.specs.Words.{refusedWord, atWord, cycleWord, rowsWord, columnsWord, maskWord, space, rowWord, colon, silentWord, driftWord}
+use Rattle.sheet_lines.specs.Words.{lineEnd}
 
 -- a word and a number
 abbrev pub counted : List ℕ → ℕ → List ℕ
@@ -22,10 +25,14 @@ headLine s =
     counted cycleWord (s .cycle) ++ (counted rowsWord (s .rows) ++ (counted columnsWord (s .columns)
     ++ (counted maskWord (s .«mask_rows») ++ (counted space (s .«mask_columns») ++ lineEnd))))
 
+-- a phase: its number; of silent ones "the sheet prints them as `-`" (document 02, T-01)
+unfoldable pub phaseWord : ℕ → List ℕ
+phaseWord p = cond (isHeard p) (decimal p) silentWord
+
 -- each phase after a space
 unfoldable pub phaseWords : List ℕ → List ℕ
 phaseWords [] = []
-phaseWords (p ∷ ps) = counted space p ++ phaseWords ps
+phaseWords (p ∷ ps) = (space ++ phaseWord p) ++ phaseWords ps
 
 -- "Then for each row its index from 0, its N filtered phases, and their drift."
 abbrev pub rowLine : ℕ → ℕ → List ℕ → List ℕ

@@ -1,4 +1,4 @@
--- The words of the bench sheet, as bytes. Document 01 fixes them.
+-- The words of the bench sheet, as bytes. Document 01 fixes them, and document 02 that of a silent phase.
 use Prim.Native.Nat.{ℕ}
 use mathlib.Core.List.{List, [], _∷_}
 
@@ -37,6 +37,10 @@ rowWord = 114 ∷ 111 ∷ 119 ∷ 32 ∷ []
 -- ":"
 abbrev pub colon : List ℕ
 colon = 58 ∷ []
+
+-- "-"
+abbrev pub silentWord : List ℕ
+silentWord = 45 ∷ []
 
 -- " drift "
 abbrev pub driftWord : List ℕ

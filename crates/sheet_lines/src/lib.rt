@@ -1,6 +1,7 @@
 // The lines of the bench sheet, laid into lent memory one after the other. Each function returns the place
 // after its line; where there is no room left the text is cut, and the place goes on counting (see `text`).
 // Internal: that the places fit 64 bits and that each row has a drift is asked of the caller.
+use cycle::SILENT;
 use cycle::SignedAnswer;
 use refusal::Refusal;
 use shape::Shape;
@@ -9,6 +10,7 @@ use text::put_bytes;
 use text::put_decimal;
 use text::put_signed;
 ghost use mathlib.Core.Path.{_≡_};
+ghost use mathlib.Core.List.{_++_};
 ghost use Prim.Native.Nat.{ℕ, _+_, _*_, _^_, _≤_, _<_};
 ghost use lib.ListN.{length};
 ghost use Rattle.refusal.specs.Limits.{mostRows, mostColumns};
@@ -19,7 +21,7 @@ ghost use Rattle.cycle.specs.Step.{drift};
 ghost use Rattle.shape.specs.Rules.{area, rowOf};
 ghost use Rattle.text.specs.Text.{Laid};
 ghost use Rattle.sheet_lines.specs.Words.{space};
-ghost use Rattle.sheet_lines.specs.Lines.{counted, refusalLine, headLine, phaseWords, rowLine, imageLines};
+ghost use Rattle.sheet_lines.specs.Lines.{counted, refusalLine, headLine, phaseWord, phaseWords, rowLine, imageLines};
 
 // No text of a record that the sheet takes is longer.
 pub const MOST_TEXT: usize = 65536;
@@ -54,12 +56,24 @@ fn put_head(text: &mut [u8], shape: Shape) -> usize
     put_byte(text, end, 10)
 }
 
+// A phase: its number, or `-` if it is silent.
+fn put_phase_word(text: &mut [u8], at: usize, phase: u16) -> usize
+    requires { ⌜ at + 20 < 2 ^ 64 ⌝ }
+    ensures { λ r. ⌜ Laid (now (text .entry)) at (phaseWord phase) r (now (text .exit)) ⌝ }
+{
+    if phase == SILENT {
+        return put_byte(text, at, 45);
+    }
+    put_decimal(text, at, phase as u64)
+}
+
 // A phase after a space.
 fn put_phase(text: &mut [u8], at: usize, phase: u16) -> usize
     requires { ⌜ at + 21 < 2 ^ 64 ⌝ }
-    ensures { λ r. ⌜ Laid (now (text .entry)) at (counted space phase) r (now (text .exit)) ⌝ }
+    ensures { λ r. ⌜ Laid (now (text .entry)) at (space ++ phaseWord phase) r (now (text .exit)) ⌝ }
 {
-    put_counted(text, at, b" ", phase as u64)
+    let word = put_byte(text, at, 32);
+    put_phase_word(text, word, phase)
 }
 
 fn put_phases(text: &mut [u8], at: usize, row: &[u16]) -> usize

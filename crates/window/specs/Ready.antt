@@ -5,7 +5,7 @@ use mathlib.Core.List.{List}
 use lib.ListN.{length}
 use Rattle.lists.specs.First.{firstBad}
 use Rattle.refusal.specs.Outcome.{Clear}
-use Rattle.cycle.specs.Distance.{isReading}
+use Rattle.cycle.specs.Silence.{isReading}
 use Rattle.shape.specs.Rules.{shapeRules, area}
 use Rattle.shape.specs.declared.Shape.{Shape}
 

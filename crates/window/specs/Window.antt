@@ -2,7 +2,7 @@
 -- the window of row i and column j covers positions i to i + 2r and j to j + 2t. Over any kind of reading; d is what a place
 -- outside the list would give, which no window has.
 use Prim.Native.Nat.{ℕ, _+_, _*_}
-use mathlib.Core.List.{List}
+use mathlib.Core.List.{List, _++_}
 use lib.ListN.{getD}
 use Rattle.lists.specs.Tabulate.{tabulate}
 use Rattle.lists.specs.Joined.{joined}
@@ -26,6 +26,10 @@ block y w i j k = joined (λ a. stretch y w a j) i k
 -- the window of row i and column j
 unfoldable pub window : {A : Type 0} → A → Shape → List A → ℕ → ℕ → List A
 window d s image i j = block (padded d s image) (s .«mask_columns») i j (s .«mask_rows»)
+
+-- a part of it: the first k rows, and l readings of the next
+abbrev pub part : {A : Type 0} → A → Shape → List A → ℕ → ℕ → ℕ → ℕ → List A
+part d s image i j k l = block (padded d s image) (s .«mask_columns») i j k ++ tabulate (padded d s image (i + k)) j l
 
 -- its centre reading
 unfoldable pub centre : {A : Type 0} → A → Shape → List A → ℕ → ℕ → A

@@ -1,6 +1,6 @@
 //! Distance, step, slot and drift.
 
-use circle_median::{sys, Refusal};
+use circle_median::{sys, Refusal, SILENT};
 
 use crate::direct;
 use crate::images::{readings, spoil};
@@ -61,6 +61,9 @@ fn ticks_of_random_cycles() {
         if random.once_in(4) {
             spoil(&mut random, length, &mut ticks);
         }
+        if random.once_in(8) {
+            ticks[random.index(3)] = SILENT;
+        }
         compare_ticks(&mut tallies, cycle, ticks);
     }
     tallies.iter().for_each(|tally| tally.must_have(&[0, 1, 9], 1_000));
@@ -113,6 +116,25 @@ fn drift_of_random_rows() {
         compare_drift(&mut tally, cycle, &row);
     }
     tally.must_have(&[0, 1, 2, 9], 500);
+}
+
+/// Every row of three on short cycles: of ticks, silent readings, and what is neither.
+#[test]
+fn drift_of_every_short_row() {
+    let mut random = Random::seeded(4);
+    let mut tally = Tally::of("drift of short rows");
+    for cycle in 1..=6 {
+        let any: Vec<u16> = (0..=cycle as u16).chain([65_534, SILENT]).collect();
+        for &a in &any {
+            for &b in &any {
+                for &c in &any {
+                    let row = Lent::holding(&mut random, &[a, b, c]);
+                    compare_drift(&mut tally, cycle, &row);
+                }
+            }
+        }
+    }
+    tally.must_have(&[0, 9], 300);
 }
 
 /// The largest drifts: half a cycle of 65,535 ticks at each of 8,191 steps, ahead and back.

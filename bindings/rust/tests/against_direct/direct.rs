@@ -1,10 +1,11 @@
-//! The paper's definitions written down directly: every window is gathered, every tick weighed, every test made in its
-//! order. The functions have the signatures of the library's safe ones, and do to lent memory what those should do.
+//! The papers' definitions written down directly: every window is gathered, every heard reading of it weighed, every
+//! test made in its order. The functions have the signatures of the library's safe ones, and do to lent memory what
+//! those should do.
 
 use std::collections::BTreeMap;
 use std::ops::Range;
 
-use circle_median::{Engine, Refusal, Shape};
+use circle_median::{Engine, Refusal, Shape, SILENT};
 
 type Answer<T> = Result<T, Refusal>;
 
@@ -38,8 +39,19 @@ fn test_shape(shape: Shape, limit: u32) -> Answer<()> {
     test_mask(shape)
 }
 
-fn test_ticks(cycle: u32, ticks: &[u16]) -> Answer<()> {
-    refuse_at(ticks.iter().position(|&tick| u32::from(tick) >= cycle), 9)
+/// Arguments must be below the cycle.
+fn test_arguments(cycle: u32, arguments: &[u16]) -> Answer<()> {
+    refuse_at(arguments.iter().position(|&argument| u32::from(argument) >= cycle), 9)
+}
+
+/// Readings must be below the cycle or silent.
+fn test_readings(cycle: u32, readings: &[u16]) -> Answer<()> {
+    refuse_at(readings.iter().position(|&reading| u32::from(reading) >= cycle && reading != SILENT), 9)
+}
+
+/// The readings that were heard, in their order.
+fn heard(readings: &[u16]) -> Vec<u16> {
+    readings.iter().copied().filter(|&reading| reading != SILENT).collect()
 }
 
 // The dial.
@@ -60,27 +72,28 @@ fn stepped(cycle: i64, a: i64, b: i64) -> i64 {
 
 pub fn distance(cycle: u32, a: u16, b: u16) -> Answer<u16> {
     test_cycle(cycle, 65_535)?;
-    test_ticks(cycle, &[a, b])?;
+    test_arguments(cycle, &[a, b])?;
     Ok(apart(cycle.into(), a.into(), b.into()) as u16)
 }
 
 pub fn step(cycle: u32, a: u16, b: u16) -> Answer<i32> {
     test_cycle(cycle, 65_535)?;
-    test_ticks(cycle, &[a, b])?;
+    test_arguments(cycle, &[a, b])?;
     Ok(stepped(cycle.into(), a.into(), b.into()) as i32)
 }
 
 pub fn slot(cycle: u32, p: u16, s: u16, w: u16) -> Answer<bool> {
     test_cycle(cycle, 65_535)?;
-    test_ticks(cycle, &[p, s, w])?;
+    test_arguments(cycle, &[p, s, w])?;
     Ok((i64::from(p) - i64::from(s)).rem_euclid(cycle.into()) <= w.into())
 }
 
 pub fn drift(cycle: u32, row: &[u16]) -> Answer<i32> {
     test_cycle(cycle, 65_535)?;
     refuse_if(row.is_empty() || row.len() > 8192, 2)?;
-    test_ticks(cycle, row)?;
-    Ok(row.windows(2).map(|pair| stepped(cycle.into(), pair[0].into(), pair[1].into())).sum::<i64>() as i32)
+    test_readings(cycle, row)?;
+    let steps = heard(row).windows(2).map(|pair| stepped(cycle.into(), pair[0].into(), pair[1].into())).sum::<i64>();
+    Ok(steps as i32)
 }
 
 // The filter.
@@ -96,31 +109,43 @@ fn mirrored(index: i64, size: i64) -> i64 {
     }
 }
 
-/// The readings of a window, each with how often it occurs.
-fn window(shape: Shape, input: &[u16], row: u32, column: u32) -> BTreeMap<u16, u64> {
+/// The readings of a window, row by row.
+fn window(shape: Shape, input: &[u16], row: u32, column: u32) -> Vec<u16> {
     let (r, t) = (i64::from(shape.mask_rows / 2), i64::from(shape.mask_columns / 2));
     let (row, column) = (i64::from(row), i64::from(column));
-    let mut readings = BTreeMap::new();
+    let mut readings = Vec::new();
     for i in row - r..=row + r {
         for j in column - t..=column + t {
             let i = mirrored(i, shape.rows.into());
             let j = mirrored(j, shape.columns.into());
-            *readings.entry(input[(i * i64::from(shape.columns) + j) as usize]).or_default() += 1;
+            readings.push(input[(i * i64::from(shape.columns) + j) as usize]);
         }
     }
     readings
 }
 
-/// The tick with the least sum; of several the closest to the centre, of two such the one ahead.
-fn chosen(cycle: u32, window: &BTreeMap<u16, u64>, centre: u16) -> u16 {
+/// What is written for a window: a heard reading, or silence if none is heard. The first one heard stands in for a
+/// silent centre.
+fn phase(cycle: u32, window: &[u16], centre: u16) -> u16 {
+    let heard = heard(window);
+    match heard.first() {
+        None => SILENT,
+        Some(&first) => chosen(cycle, &heard, if centre == SILENT { first } else { centre }),
+    }
+}
+
+/// The reading with the least sum; of several the closest to the centre, of two such the one ahead.
+fn chosen(cycle: u32, heard: &[u16], centre: u16) -> u16 {
     let (cycle, centre) = (u64::from(cycle), u64::from(centre));
+    let mut counted = BTreeMap::new();
+    heard.iter().for_each(|&reading| *counted.entry(u64::from(reading)).or_default() += 1);
     let key = |tick: u64| {
-        let sum: u64 = window.iter().map(|(&reading, times)| times * apart(cycle, tick, reading.into())).sum();
+        let sum: u64 = counted.iter().map(|(&reading, times): (_, &u64)| times * apart(cycle, tick, reading)).sum();
         let from_centre = apart(cycle, tick, centre);
         let behind = (centre + from_centre) % cycle != tick;
         (sum, from_centre, behind)
     };
-    (0..cycle).min_by_key(|&tick| key(tick)).unwrap() as u16
+    counted.keys().copied().min_by_key(|&tick| key(tick)).unwrap() as u16
 }
 
 /// The numbers of work memory that an engine needs.
@@ -147,7 +172,7 @@ pub fn test_filter(
     refuse_if(input.len() != image, 6)?;
     refuse_if(output < image, 7)?;
     refuse_if(work < need(engine, shape), 8)?;
-    test_ticks(shape.cycle, input)
+    test_readings(shape.cycle, input)
 }
 
 /// Writes the rows of a range, of an image that was tested.
@@ -155,7 +180,7 @@ pub fn write_rows(shape: Shape, rows: Range<u32>, input: &[u16], output: &mut [u
     for row in rows {
         for column in 0..shape.columns {
             let at = (row * shape.columns + column) as usize;
-            output[at] = chosen(shape.cycle, &window(shape, input, row, column), input[at]);
+            output[at] = phase(shape.cycle, &window(shape, input, row, column), input[at]);
         }
     }
 }
@@ -200,7 +225,7 @@ pub fn write(shape: Shape, readings: &[u16], bytes: &mut [u8]) -> Answer<usize> 
     let (rows, columns) = (shape.rows as usize, shape.columns as usize);
     refuse_if(readings.len() != rows * columns, 6)?;
     refuse_if(bytes.len() < 22 + rows * (3 + 2 * columns), 7)?;
-    test_ticks(shape.cycle, readings)?;
+    test_readings(shape.cycle, readings)?;
     let record = record(shape, &[shape.mask_rows as u16, shape.mask_columns as u16], readings);
     bytes[..record.len()].copy_from_slice(&record);
     Ok(record.len())
@@ -249,7 +274,7 @@ pub fn read(bytes: &[u8], readings: &mut [u16]) -> Answer<Shape> {
     let mut read = Vec::new();
     for _ in 0..shape.rows {
         read.extend(fields.take(4, &[2 * shape.columns as usize])?);
-        test_ticks(shape.cycle, &read)?;
+        test_readings(shape.cycle, &read)?;
     }
     fields.take(0xFF, &[0])?;
     refuse_at((fields.at < bytes.len()).then_some(fields.at), 13)?;

@@ -1,7 +1,7 @@
-//! The paper's own examples, with the answers that it prints, and the mistakes that it warns of.
+//! The papers' own examples, with the answers that they print, and the mistakes that they warn of.
 
 use circle_median::Engine::{Level, Reading};
-use circle_median::{drift, filter, read, step, work_len, write, Engine, Refusal, Shape};
+use circle_median::{distance, drift, filter, read, slot, step, work_len, write, Engine, Refusal, Shape, SILENT};
 
 const NONE: Refusal = Refusal { number: 0, place: 0 };
 
@@ -65,6 +65,48 @@ fn row_and_edges() {
         assert_eq!(filtered(engine, shape(8, 1, 200, 3, 255), &[6; 200]), Ok(vec![6; 200]));
     }
     assert_eq!(filtered(Level, shape(4096, 1, 1, 1, 1), &[4095]), Ok(vec![4095]));
+}
+
+/// Silent readings: no centre, none heard, an even number heard, and the example of 16 ticks.
+#[test]
+fn silent_windows() {
+    const S: u16 = SILENT;
+    assert_eq!(S, 65_535);
+    for engine in [Level, Reading] {
+        let row = |cycle, mask, image: &[u16]| filtered(engine, shape(cycle, 1, image.len() as u32, 1, mask), image);
+        assert_eq!(row(8, 3, &[0, S, 4]), Ok(vec![0, 0, 4]));
+        assert_eq!(row(8, 3, &[4, S, 0]), Ok(vec![4, 4, 0]));
+        assert_eq!(row(8, 3, &[1, S, 7, S, S, S, 3]), Ok(vec![1, 1, 7, 7, S, 3, 3]));
+        assert_eq!(row(16, 5, &[15, 1, S, 8, 8]).map(|row| row[2]), Ok(8));
+        assert_eq!(row(8, 1, &[3, S]), Ok(vec![3, S]));
+        assert_eq!(filtered(engine, shape(1, 2, 2, 3, 3), &[S; 4]), Ok(vec![S; 4]));
+        assert_eq!(filtered(engine, shape(4096, 2, 1, 3, 1), &[S, 4095]), Ok(vec![4095, 4095]));
+    }
+    assert_eq!(filtered(Reading, shape(65_535, 1, 4, 1, 3), &[65_534, S, 0, S]), Ok(vec![65_534, 65_534, 0, 0]));
+    assert_eq!(drift(8, &[1, 1, 7, 7, S, 3, 3]), Ok(2));
+    assert_eq!(drift(8, &[S, 5, S]), Ok(0));
+    assert_eq!(drift(65_535, &[S, S]), Ok(0));
+}
+
+/// No call takes a silent argument; images, rows and records are refused at the first that is neither tick nor silent.
+#[test]
+fn silent_refusals() {
+    const S: u16 = SILENT;
+    for cycle in [1, 8, 65_535] {
+        assert_eq!((refused(distance(cycle, S, 0)), refused(distance(cycle, 0, S))), ((9, 0), (9, 1)));
+        assert_eq!((refused(step(cycle, S, 0)), refused(step(cycle, 0, S))), ((9, 0), (9, 1)));
+        let slots = [slot(cycle, S, 0, 0), slot(cycle, 0, S, 0), slot(cycle, 0, 0, S)];
+        assert_eq!(slots.map(refused), [(9, 0), (9, 1), (9, 2)]);
+    }
+    assert_eq!(refused(drift(8, &[S, 65_534, 8])), (9, 1));
+    for engine in [Level, Reading] {
+        assert_eq!(refused(filtered(engine, shape(8, 2, 2, 1, 3), &[S, 1, S, 8])), (9, 3));
+    }
+    let mut bytes = [0; 35];
+    assert_eq!(refused(write(shape(8, 1, 5, 1, 3), &[S, 4, S, 65_534, 7], &mut bytes)), (9, 3));
+    assert_eq!(write(shape(8, 1, 5, 1, 3), &[S, 4, S, 7, 7], &mut bytes), Ok(35));
+    bytes[24..26].copy_from_slice(&[0, 8]);
+    assert_eq!(refused(read(&bytes, &mut [0; 5])), (9, 1));
 }
 
 #[test]

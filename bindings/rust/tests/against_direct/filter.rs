@@ -4,7 +4,7 @@ use circle_median::Engine::{Level, Reading};
 use circle_median::{filter, Engine, Shape};
 
 use crate::filter_call::{limit, Call};
-use crate::images::{readings, spoil};
+use crate::images::{readings, shape, spoil};
 use crate::random::Random;
 use crate::tally::Tally;
 
@@ -64,6 +64,20 @@ fn every_small_mask() {
         }
     }
     tally.must_have(&[0, 3, 4], 300);
+}
+
+/// Cycles on which the distance formula, taken for a silent reading, would not give 0.
+#[test]
+fn reading_engine_on_long_cycles() {
+    let mut random = Random::seeded(16);
+    let mut tally = Tally::of("long cycles");
+    for _ in 0..5_000 {
+        let any = random.within(32_769..=65_535);
+        let cycle = random.one_of(&[32_769, 32_770, 40_000, 65_534, 65_535, any]);
+        let shape = shape(&mut random, cycle, 6, 12);
+        compare_whole(&mut random, &mut tally, &Call::whole(Reading, shape));
+    }
+    tally.must_have(&[0], 5_000);
 }
 
 /// Shapes of which one number is as large as can be; all are accepted.

@@ -45,15 +45,12 @@ impl Call {
         Call { engine, shape, rows: 0..shape.rows, input: image, output: image, work: work_len(engine, shape) }
     }
 
-    /// A good call: any range, with or without memory to spare. Long cycles are rare, and have small images.
+    /// A good call: any range, with or without memory to spare. Short cycles are more frequent, since sums are often
+    /// equal on them.
     pub fn good(random: &mut Random, engine: Engine, rows: u32, columns: u32) -> Self {
-        let shape = if random.once_in(60) {
-            let cycle = random.within(41..=limit(engine));
-            shape(random, cycle, 2, 3)
-        } else {
-            let cycle = random.within(1..=40);
-            shape(random, cycle, rows, columns)
-        };
+        let longest = if random.once_in(6) { limit(engine) } else { 40 };
+        let cycle = random.within(1..=longest);
+        let shape = shape(random, cycle, rows, columns);
         let mut call = Call::whole(engine, shape);
         if random.once_in(2) {
             let first = random.within(0..=shape.rows);

@@ -1,19 +1,35 @@
 //! Random cycles, shapes and readings.
 
-use circle_median::Shape;
+use circle_median::{Shape, SILENT};
 
 use crate::random::Random;
 
-/// Readings of a cycle: anywhere, or few ticks, or parts of the cycle apart, so that many sums are equal.
+/// Readings of a cycle, of which now and then some are silent: few, half, most or all.
 pub fn readings(random: &mut Random, cycle: u32, length: usize) -> Vec<u16> {
+    let mut readings = ticks(random, cycle, length);
+    if random.once_in(2) {
+        let silent_of_ten = random.one_of(&[1, 1, 3, 5, 8, 10]);
+        for reading in &mut readings {
+            if random.within(1..=10) <= silent_of_ten {
+                *reading = SILENT;
+            }
+        }
+    }
+    readings
+}
+
+/// Ticks of a cycle: anywhere, or few, or parts of the cycle apart, so that many sums are equal, or the last ones, which
+/// are the closest to a silent reading.
+fn ticks(random: &mut Random, cycle: u32, length: usize) -> Vec<u16> {
     let start = random.within(0..=cycle - 1);
     let (parts, kinds) = (random.within(1..=6), random.within(1..=4));
-    let style = random.within(0..=3);
+    let style = random.within(0..=4);
     let draw = |_| {
         let tick = match style {
             0 => random.within(0..=cycle - 1),
             1 => start + random.within(0..=kinds),
             2 => start + random.within(0..=kinds) * cycle / parts,
+            3 => cycle - 1 - random.within(0..=kinds).min(cycle - 1),
             _ => start + random.one_of(&[0, 0, 0, 1, 2, cycle / 2, cycle - 1]),
         };
         (tick % cycle) as u16
@@ -21,12 +37,14 @@ pub fn readings(random: &mut Random, cycle: u32, length: usize) -> Vec<u16> {
     (0..length).map(draw).collect()
 }
 
-/// Puts numbers that are not below the cycle at some places.
+/// Puts numbers that are neither below the cycle nor silent at some places; on 65,535 ticks there are none, and these
+/// places fall silent.
 pub fn spoil(random: &mut Random, cycle: u32, readings: &mut [u16]) {
+    let most = cycle.max(65_534);
     for _ in 0..random.within(1..=3) {
         if !readings.is_empty() {
-            let any = random.within(cycle..=65_535);
-            readings[random.index(readings.len())] = random.one_of(&[cycle, any, 65_535]) as u16;
+            let any = random.within(cycle..=most);
+            readings[random.index(readings.len())] = random.one_of(&[cycle, any, most]) as u16;
         }
     }
 }

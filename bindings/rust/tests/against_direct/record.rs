@@ -1,6 +1,6 @@
 //! The record's writer and reader, on good records and on damaged ones.
 
-use circle_median::{record_len, sys, Refusal, Shape};
+use circle_median::{record_len, sys, Refusal, Shape, SILENT};
 
 use crate::cycle::told;
 use crate::direct;
@@ -167,7 +167,7 @@ fn every_cut_and_every_changed_byte() {
     let mut random = Random::seeded(32);
     let mut tally = Tally::of("cuts and changes");
     let shape = Shape { cycle: 200, rows: 2, columns: 3, mask_rows: 3, mask_columns: 1 };
-    let record = direct::record(shape, &[3, 1], &[0, 199, 128, 7, 44, 1]);
+    let record = direct::record(shape, &[3, 1], &[0, 199, 128, SILENT, 44, 1]);
     let into = Lent::garbage(&mut random, 6);
     for end in 0..record.len() {
         let cut = Lent::holding(&mut random, &record[..end]);

@@ -9,6 +9,7 @@ use Rattle.refusal.specs.Limits.{longestCycle, mostRows, mostColumns}
 use Rattle.shape.specs.Rules.{reach}
 use Rattle.shape.proofs.Accepted.{Accepted, shape-clear, row-room}
 use Rattle.window.proofs.Mirror.{mirror-below}
+use Rattle.window.proofs.Window.{padded-reading}
 use Rattle.lines.proofs.Padding.{line-made}
 use Rattle.lines.proofs.pad.Statement.{statement}
 use Rattle.lines.proofs.pad.Tie as tie
@@ -88,7 +89,8 @@ returns c =
     let m = mirrored (edged f) in
     let s = start m in
     let a = s .args in
-    line-made (a .shape) (a .image .now) (a .position) _ (ap (λ (x : ℕ). x * a .shape .columns) (m .mirrored .ensures)) (sizes s .columns-reach) (s .pre .2)
+    line-made (a .shape) (a .image .now) (a .position) _ (ap (λ (x : ℕ). x * a .shape .columns) (m .mirrored .ensures)) (sizes s .columns-reach)
+    (λ k h. padded-reading (s .pre .0) (omega arith) (a .position) k (s .pre .1) h) (s .pre .2)
     (edged f .copy-back .ensures) (f .copy-line .ensures) (b .copy-back2 .ensures)
 
 pub pad-spec : {M : Type 1} → statement M

@@ -73,7 +73,7 @@ build-ahead-requires c κs =
     let laid = lay (s .pre .0 .0) (s .pre .0 .1) (s .pre .0 .2) (s .pre .1 .1 .0 .0) (o .lay-line .ensures) in
     let scratch = s .pre .1 .1 .0 .1 in (
       (s .pre .0 .0 .ready, s .pre .0 .1, laid-room laid),
-      ((laid .line .len, s .pre .1 .0 .1), (s .pre .1 .0 .2, s .pre .1 .0 .3, scratch .change-line, scratch .step-line)),
+      ((laid .line .reads, s .pre .1 .0 .1), (s .pre .1 .0 .2, s .pre .1 .0 .3, scratch .change-line, scratch .step-line)),
     )
 
 clear-requires : tie.Need-clear-requires Inv-loop μ-loop
@@ -126,7 +126,7 @@ build-on-requires c κs =
     let inv = t .before .loop .inv in (
       (s .pre .0 .0 .ready, s .pre .0 .1, t .loop-test .taken, next-room (inv .0) (t .loop-test .taken)),
       (
-        (inv .0 .laid .line .len, s .pre .1 .0 .1),
+        (inv .0 .laid .line .reads, s .pre .1 .0 .1),
         ((inv .1, inv .2, inv .0 .scratch .change-line, inv .0 .scratch .step-line), inv .0 .sweeping .behind),
       ),
     )

@@ -1,7 +1,8 @@
 -- `reading_turns::stay` meets its contract: after the sweep ahead plane 0 is due and weighed, and each turn of the sweep behind does the same
 -- for the plane after it. Assumes nothing.
 use Prim.Native.Nat.{ℕ, _+_, _-_}
-use mathlib.Core.Path.{refl, sym, _∙_}
+use mathlib.Core.Path.{_≡_, refl, sym, _∙_}
+use mathlib.Core.Bool.{Bool, true}
 use mathlib.Core.List.{List}
 use native.Mathlib.Omega.{arith}
 use borrow.Author.Needs.{needs}
@@ -9,7 +10,7 @@ use Rattle.shape.specs.declared.Shape.{Shape}
 use Rattle.lines.specs.Lines.{Line}
 use Rattle.reading_lines.specs.Passes.{ofLine}
 use Rattle.reading_planes.proofs.Sums.{line-room}
-use Rattle.reading_sums.specs.CarryLines.{CarryLines}
+use Rattle.reading_sums.specs.CarryLines.{Plain, CarryLines}
 use Rattle.reading_turns.specs.Scratch.{Scratch}
 use Rattle.reading_turns.proofs.Turn.{scratch-kept, position-inside, position-fits, lay, laid-sizes, laid-room}
 use Rattle.reading_turns.proofs.Turn.{Turn, turn-carried, weigh-asked, turn-weighed, next-room, turn-next, turn-last}
@@ -17,12 +18,12 @@ use Rattle.reading_turns.proofs.stay.Statement.{statement}
 use Rattle.reading_turns.proofs.stay.Tie as tie
 
 abbrev Inv-loop : tie.InvT-loop
-Inv-loop shape image work₀ i k own entering leaving centres change₀ step₀ least₀ nearest₀ columns mask plane₀ l₀ work change step least nearest plane l =
+Inv-loop shape image work₀ i k own entering leaving centres change₀ step₀ least₀ nearest₀ columns mask plane₀ plain l₀ work change step least nearest plane l =
     Turn shape image own centres i k plane₀ (ofLine (shape .cycle) own entering) (ofLine (shape .cycle) own leaving) work₀ work
     change step least nearest l (l + 1) plane
 
 abbrev μ-loop : tie.MeasureT-loop
-μ-loop shape image work₀ i k own entering leaving centres change₀ step₀ least₀ nearest₀ columns mask plane₀ l₀ work change step least nearest plane l =
+μ-loop shape image work₀ i k own entering leaving centres change₀ step₀ least₀ nearest₀ columns mask plane₀ plain l₀ work change step least nearest plane l =
     shape .«mask_columns» - l
 
 -- back to places that the answers go by
@@ -32,8 +33,14 @@ start c = c .before .before .before .before .before .before .before .before .bef
 abbrev before-line : tie.After-lay-line Inv-loop μ-loop → tie.Start Inv-loop μ-loop
 before-line c = start (c .before .before)
 
+abbrev asked : tie.After-carry-ahead-arg4 Inv-loop μ-loop → tie.After-is-plain Inv-loop μ-loop
+asked c = c .before .before .before .before
+
+abbrev laid-line : tie.After-is-plain-arg Inv-loop μ-loop → tie.After-lay-line Inv-loop μ-loop
+laid-line c = c .before .before .before
+
 abbrev line : tie.After-carry-ahead-arg4 Inv-loop μ-loop → tie.After-lay-line Inv-loop μ-loop
-line c = c .before .before .before .before .before .before
+line c = laid-line (asked c .before)
 
 abbrev ahead : tie.After-clear-arg Inv-loop μ-loop → tie.After-carry-ahead Inv-loop μ-loop
 ahead c = c .before .before .before .before .before .before .before
@@ -70,13 +77,22 @@ lay-line-requires c κs =
     let s = start (c .before) in
     (s .pre .0 .0 .ready, position-inside (s .pre .0 .0) (s .pre .0 .2) (s .pre .0 .3), s .pre .1 .0 .0)
 
+is-plain-requires : tie.Need-is-plain-requires Inv-loop μ-loop
+is-plain-requires c κs =
+    let o = laid-line c in
+    let s = before-line o in
+    (s .pre .0 .0 .ready .shape, o .lay-line .ensures .0 .len, s .pre .1 .0 .1 .len, s .pre .1 .0 .2 .len)
+
 -- the lines that planes are carried by
-carry-lines : {s : Shape} {image own entering leaving change step least nearest : List ℕ} {p q r : ℕ} → Line s image p own → Line s image q entering
-    → Line s image r leaving → Scratch change step least nearest → CarryLines own entering leaving change step
-carry-lines a b c d = record {
-  own-line = a .len;
-  entering-line = b .len;
-  leaving-line = c .len;
+carry-lines : {s : Shape} {image own entering leaving change step least nearest : List ℕ} {p q r : ℕ} {plain : Bool} → Line s image p own
+    → Line s image q entering → Line s image r leaving → Scratch change step least nearest → (plain ≡ true → Plain s own entering × Plain s own leaving)
+    → CarryLines plain s own entering leaving change step
+carry-lines a b c d e = record {
+  own-reads = a .reads;
+  entering-reads = b .reads;
+  leaving-reads = c .reads;
+  entering-plain = λ t. e t .0;
+  leaving-plain = λ t. e t .1;
   change-line = d .change-line;
   step-line = d .step-line;
 }
@@ -88,7 +104,7 @@ carry-ahead-requires c κs =
     let laid = lay (s .pre .0 .0) (s .pre .0 .2) (s .pre .0 .3) (s .pre .1 .1 .0 .0) (o .lay-line .ensures) in
     let scratch = s .pre .1 .1 .0 .1 in (
       (s .pre .0 .0 .ready .shape, laid-room laid),
-      carry-lines (laid .line) (s .pre .1 .0 .1) (s .pre .1 .0 .2) scratch,
+      carry-lines (laid .line) (s .pre .1 .0 .1) (s .pre .1 .0 .2) scratch (asked c .is-plain .ensures),
     )
 
 clear-requires : tie.Need-clear-requires Inv-loop μ-loop
@@ -136,7 +152,7 @@ carry-on-requires c κs =
     let s = first (t .before) in
     let inv = t .before .loop .inv in (
       (s .pre .0 .0 .ready .shape, t .loop-test .taken, next-room inv (t .loop-test .taken)),
-      (carry-lines (inv .laid .line) (s .pre .1 .0 .1) (s .pre .1 .0 .2) (inv .scratch), inv .sweeping .behind),
+      (carry-lines (inv .laid .line) (s .pre .1 .0 .1) (s .pre .1 .0 .2) (inv .scratch) (asked (swept (t .before) .before) .is-plain .ensures), inv .sweeping .behind),
     )
 
 add-l : tie.Need-add-l Inv-loop μ-loop
@@ -178,6 +194,7 @@ stay-spec =
     (λ c. search needs)
     add-lay-line
     lay-line-requires
+    is-plain-requires
     carry-ahead-requires
     (λ c. search needs)
     clear-requires

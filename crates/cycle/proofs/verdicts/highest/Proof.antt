@@ -1,5 +1,5 @@
 -- `cycle::verdicts::highest` meets its contract. Assumes nothing.
-use Prim.Native.Nat.{ℕ, _+_, _-_, _≤_, _<_}
+use Prim.Native.Nat.{ℕ, _+_, _-_, _%_, _^_, _≤_, _<_}
 use mathlib.Core.Path.{_≡_}
 use mathlib.Core.List.{List}
 use native.Mathlib.Omega.{arith}
@@ -9,31 +9,34 @@ use lib.ListN.{length, getD}
 use Rattle.cycle.proofs.verdicts.highest.Statement.{statement}
 use Rattle.cycle.proofs.verdicts.highest.Tie as tie
 
--- no reading before place i is above top
-abbrev Under : List ℕ → ℕ → ℕ → Type 0
-Under readings i top = (k : ℕ) → k < i → getD readings k 0 ≤ top
+-- no reading before place i is above top, with `more` added
+abbrev Under : List ℕ → ℕ → ℕ → ℕ → Type 0
+Under readings more i top = (k : ℕ) → k < i → (getD readings k 0 + more) % 2 ^ 16 ≤ top
 
-under-more : (readings : List ℕ) (i : ℕ) {top next : ℕ} → Under readings i top → getD readings i 0 ≤ next → top ≤ next → Under readings (i + 1) next
-under-more readings i {top} {next} u h g k l = go (ℕ-discrete k i)
+under-more : (readings : List ℕ) (more i : ℕ) {top next : ℕ} → Under readings more i top → (getD readings i 0 + more) % 2 ^ 16 ≤ next → top ≤ next
+    → Under readings more (i + 1) next
+under-more readings more i {top} {next} u h g k l = go (ℕ-discrete k i)
   where
-    go : Dec (k ≡ i) → getD readings k 0 ≤ next
+    go : Dec (k ≡ i) → (getD readings k 0 + more) % 2 ^ 16 ≤ next
     go (yes e) = rw e h
     go (no e) = omega (arith, u k (omega arith))
 
 abbrev Inv-loop : tie.InvT-loop
-Inv-loop readings top₀ i₀ top i = (i ≤ length readings) × Under readings i top
+Inv-loop readings more top₀ i₀ top i = (i ≤ length readings) × Under readings more i top
 
 abbrev μ-loop : tie.MeasureT-loop
-μ-loop readings top₀ i₀ top i = length readings - i
+μ-loop readings more top₀ i₀ top i = length readings - i
 
 loop-holds : tie.Need-loop-holds Inv-loop μ-loop
 loop-holds c = (omega arith, λ k h. absurd (omega arith))
 
 loop-again : tie.Need-loop-again Inv-loop μ-loop
 loop-again c =
-    let at = c .before .before .before in
+    let w = c .before in
+    let at = w .before .before .before in
     let l = at .loop in
-    (omega arith, under-more (at .before .before .args .readings .now) (l .i) (l .inv .1) (c .greater .ensures .0) (c .greater .ensures .1))
+    let a = at .before .before .args in
+    (omega arith, under-more (a .readings .now) (a .more) (l .i) (l .inv .1) (omega (arith, w .wrapping-add-u16 .ensures, c .greater .ensures)) (c .greater .ensures .1))
 
 returns : tie.Need-returns Inv-loop μ-loop
 returns c = let l = c .before .loop in λ k h. l .inv .1 k (omega (arith, c .loop-test .left))
@@ -47,6 +50,7 @@ highest-spec =
     loop-holds
     (λ c. search needs)
     (λ c. search needs)
+    (λ c κs. search needs)
     (λ c κs. search needs)
     (λ c. search needs)
     (λ c. search needs)

@@ -3,7 +3,7 @@ use Prim.Native.Nat.{_≤_, _<_}
 use native.Mathlib.Omega.{arith}
 use borrow.Author.Needs.{needs}
 use lib.ListN.{length}
-use Rattle.cycle.specs.Distance.{isReading}
+use Rattle.cycle.specs.Silence.{isReading}
 use Rattle.lists.specs.First.{firstBad}
 use Rattle.refusal.proofs.Outcome.{tests}
 use Rattle.refusal.specs.Outcome.{firstDue}

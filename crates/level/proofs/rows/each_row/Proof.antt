@@ -24,32 +24,32 @@ use Rattle.level.proofs.rows.each_row.Statement.{statement}
 use Rattle.level.proofs.rows.each_row.Tie as tie
 
 abbrev Inv-loop : tie.InvT-loop
-Inv-loop shape first end image output₀ work₀ table centres₀ columns start stop i₀ output work centres i = (first ≤ i) × (i < end) ×
+Inv-loop shape first end image output₀ work₀ table centres₀ row₀ columns start stop i₀ output work centres row i = (first ≤ i) × (i < end) ×
     RowSums shape image i work 0 (shape .columns) × Outside work₀ work 0 (levelNeed shape) ×
-    Run (phaseAt shape image) ((first + 1) * shape .columns) output₀ output ((i + 1) * shape .columns) × IsLine centres
+    Run (phaseAt shape image) ((first + 1) * shape .columns) output₀ output ((i + 1) * shape .columns) × IsLine centres × IsLine row
 
 abbrev μ-loop : tie.MeasureT-loop
-μ-loop shape first end image output₀ work₀ table centres₀ columns start stop i₀ output work centres i = end - i
+μ-loop shape first end image output₀ work₀ table centres₀ row₀ columns start stop i₀ output work centres row i = end - i
 
 -- the first row, from before the loop and from its head; where the call began, from the first row
-abbrev opening : tie.After-slice-known6 Inv-loop μ-loop → tie.After-first-row Inv-loop μ-loop
-opening c = c .before .before .before .before .before .before
+abbrev opening : tie.After-slice-known8 Inv-loop μ-loop → tie.After-first-row Inv-loop μ-loop
+opening c = c .before .before .before .before .before .before .before .before
 
 abbrev first-row : tie.At-loop Inv-loop μ-loop → tie.After-first-row Inv-loop μ-loop
 first-row c = opening (c .before)
 
 abbrev start : tie.After-struct-known Inv-loop μ-loop → tie.Start Inv-loop μ-loop
-start c = c .before .before .before .before .before .before
+start c = c .before .before .before .before .before .before .before
 
 abbrev begin : tie.After-first-row Inv-loop μ-loop → tie.Start Inv-loop μ-loop
-begin c = start (c .before .before .before .before)
+begin c = start (c .before .before .before .before .before)
 
 -- a turn of the loop, from its end
-abbrev next-row : tie.After-slice-known9 Inv-loop μ-loop → tie.After-next-row Inv-loop μ-loop
-next-row c = c .before .before .before .before .before .before
+abbrev next-row : tie.After-slice-known12 Inv-loop μ-loop → tie.After-next-row Inv-loop μ-loop
+next-row c = c .before .before .before .before .before .before .before .before
 
 abbrev turn : tie.After-next-row Inv-loop μ-loop → tie.In-loop Inv-loop μ-loop
-turn c = c .before .before .before .before
+turn c = c .before .before .before .before .before
 
 -- the first row lies within the output, and that of a turn
 first-inside : (s : tie.Start Inv-loop μ-loop) → let n = s .args .shape .columns in
@@ -69,7 +69,7 @@ next-inside c =
 -- the output with the first row
 opened : (c : tie.After-first-row Inv-loop μ-loop) → let a = begin c .args in let n = a .shape .columns in
     Run (phaseAt (a .shape) (a .image .now)) (a .first * n) (a .output .now)
-    (putMid (a .first * n) (a .first * n + n - a .first * n) (a .output .now) (c .first-row .last .1 .1 .1 .1 .1 .1 .0)) (a .first * n + n)
+    (putMid (a .first * n) (a .first * n + n - a .first * n) (a .output .now) (c .first-row .last .1 .1 .1 .1 .1 .1 .1 .0)) (a .first * n + n)
 opened c =
     let s = begin c in
     run-part run-start (s .args .shape .columns) _ (omega (arith, first-inside s)) (c .first-row .ensures .phases)
@@ -81,18 +81,18 @@ add-stop : tie.Need-add-stop Inv-loop μ-loop
 add-stop c = omega (arith, first-inside (start c))
 
 mul-first-row : tie.Need-mul-first-row Inv-loop μ-loop
-mul-first-row c = omega (arith, first-inside (start (c .before .before)))
+mul-first-row c = omega (arith, first-inside (start (c .before .before .before)))
 
 part-first-row-end : tie.Need-part-first-row-end Inv-loop μ-loop
-part-first-row-end c = omega (arith, first-inside (start (c .before .before)))
+part-first-row-end c = omega (arith, first-inside (start (c .before .before .before)))
 
 first-row-requires : tie.Need-first-row-requires Inv-loop μ-loop
 first-row-requires c κs =
-    let s = start (c .before .before .before) in
+    let s = start (c .before .before .before .before) in
     let a = s .args in
     let n = a .shape .columns in
     let k = s .pre .0 .0 in (
-      (k .given, s .pre .1 .0, s .pre .1 .1),
+      (k .given, s .pre .1 .0, s .pre .1 .1, s .pre .1 .2),
       (omega (arith, s .pre .0 .1, k .within), part-length (a .first * n) n (a .output .now) (omega (arith, first-inside s))),
     )
 
@@ -100,7 +100,7 @@ loop-holds : tie.Need-loop-holds Inv-loop μ-loop
 loop-holds c =
     let f = opening c in
     let s = begin f in
-    (omega arith, s .pre .0 .1, f .first-row .ensures .sums, outside-none, run-start, search needs)
+    (omega arith, s .pre .0 .1, f .first-row .ensures .sums, outside-none, run-start, search needs, search needs)
 
 mul-a : tie.Need-mul-a Inv-loop μ-loop
 mul-a c = omega (arith, next-inside c)
@@ -109,21 +109,21 @@ add-b : tie.Need-add-b Inv-loop μ-loop
 add-b c = omega (arith, next-inside c)
 
 mul-next-row : tie.Need-mul-next-row Inv-loop μ-loop
-mul-next-row c = omega (arith, next-inside (c .before .before))
+mul-next-row c = omega (arith, next-inside (c .before .before .before))
 
 part-next-row-end : tie.Need-part-next-row-end Inv-loop μ-loop
 part-next-row-end c =
-    let k = c .before .before in
+    let k = c .before .before .before in
     omega (arith, next-inside k, opened (first-row (k .before)) .len, k .before .loop .inv .4 .len)
 
 next-row-requires : tie.Need-next-row-requires Inv-loop μ-loop
 next-row-requires c κs =
-    let k = c .before .before .before in
+    let k = c .before .before .before .before in
     let l = k .before .loop in
     let r = first-row (k .before) in
     let s = begin r in
     let n = s .args .shape .columns in (
-      (given-kept (s .pre .0 .0 .given) (l .inv .3 .len ∙ r .first-row .ensures .outside .len), s .pre .1 .0, l .inv .5),
+      (given-kept (s .pre .0 .0 .given) (l .inv .3 .len ∙ r .first-row .ensures .outside .len), s .pre .1 .0, l .inv .5, l .inv .6),
       (
         omega (arith, s .pre .0 .0 .within),
         part-length ((l .i + 1) * n) n (l .output) (omega (arith, next-inside k, opened r .len, l .inv .4 .len)),
@@ -150,6 +150,7 @@ loop-again c =
       outside-more (l .inv .3) (y .next-row .ensures .outside),
       rw (next-place (l .i + 1) n) (run-part (l .inv .4) n _ (omega (arith, next-inside k, opened r .len)) (y .next-row .ensures .phases)),
       search needs,
+      search needs,
     )
 
 same-length : tie.Need-same-length Inv-loop μ-loop
@@ -160,6 +161,9 @@ same-length-2 c = c .before .loop .inv .3 .len ∙ first-row (c .before) .first-
 
 same-length-3 : tie.Need-same-length-3 Inv-loop μ-loop
 same-length-3 c = c .before .loop .inv .5 ∙ sym (begin (first-row (c .before)) .pre .1 .1)
+
+same-length-4 : tie.Need-same-length-4 Inv-loop μ-loop
+same-length-4 c = c .before .loop .inv .6 ∙ sym (begin (first-row (c .before)) .pre .1 .2)
 
 returns : tie.Need-returns Inv-loop μ-loop
 returns c =
@@ -209,4 +213,5 @@ each-row-spec =
     same-length
     same-length-2
     same-length-3
+    same-length-4
     returns)

@@ -16,24 +16,28 @@ use Rattle.level.proofs.rows.first_row.Statement.{statement}
 use Rattle.level.proofs.rows.first_row.Tie as tie
 
 abbrev Inv-loop : tie.InvT-loop
-Inv-loop shape image work₀ table centres i out₀ cycle columns j₀ base₀ work out j base = (j < columns) × (base ≡ j * shape .cycle) ×
+Inv-loop shape image work₀ table centres row i out₀ cycle columns j₀ base₀ work out j base = (j < columns) × (base ≡ j * shape .cycle) ×
     RowSums shape image i work 0 (j + 1) × Outside work₀ work 0 (levelNeed shape) × RowSoFar shape image i out (j + 1)
 
 abbrev μ-loop : tie.MeasureT-loop
-μ-loop shape image work₀ table centres i out₀ cycle columns j₀ base₀ work out j base = columns - j
+μ-loop shape image work₀ table centres row i out₀ cycle columns j₀ base₀ work out j base = columns - j
 
--- from the head of the loop: column 0 set up, the centres in their line, where the call began
+-- column 0 set up, from the head of the loop; the centres in their line and where the call began, from before column 0 is set up; where the
+-- call began, from the head of the loop
 abbrev column : tie.At-loop Inv-loop μ-loop → tie.After-first-column Inv-loop μ-loop
 column c = c .before .before .before .before .before .before
 
-abbrev centred : tie.After-first-column Inv-loop μ-loop → tie.After-centres Inv-loop μ-loop
-centred c = c .before .before .before .before
+abbrev centred : tie.After-first-column-arg Inv-loop μ-loop → tie.After-centres Inv-loop μ-loop
+centred c = c .before .before .before .before .before
 
-abbrev start : tie.After-centres-arg Inv-loop μ-loop → tie.Start Inv-loop μ-loop
-start c = c .before .before .before .before .before .before .before .before
+abbrev start : tie.After-centres-arg2 Inv-loop μ-loop → tie.Start Inv-loop μ-loop
+start c = c .before .before .before .before .before .before .before .before .before .before
+
+abbrev opened : tie.After-first-column-arg Inv-loop μ-loop → tie.Start Inv-loop μ-loop
+opened c = start (centred c .before)
 
 abbrev begin : tie.At-loop Inv-loop μ-loop → tie.Start Inv-loop μ-loop
-begin c = start (centred (column c) .before)
+begin c = opened (column c .before)
 
 -- within a turn: the next column set up, the head of the loop
 abbrev columned : tie.After-settled2 Inv-loop μ-loop → tie.After-next-column Inv-loop μ-loop
@@ -54,42 +58,43 @@ abbrev line : tie.After-centres Inv-loop μ-loop → List ℕ
 line c = c .centres .last .1 .1 .1 .0
 
 -- column 0 may be chosen
-first : (c : tie.After-first-column Inv-loop μ-loop) → let a = start (centred c .before) .args in
-    Ripe (a .shape) (a .image .now) (a .i) (line (centred c)) (memory c) 0 0
+first : (c : tie.After-first-column Inv-loop μ-loop) → let a = opened (c .before) .args in
+    Ripe (a .shape) (a .image .now) (a .i) (line (centred (c .before))) (memory c) 0 0
 first c =
-    let s = start (centred c .before) in
+    let s = opened (c .before) in
     let x = c .first-column .ensures in
     let g = given-kept (s .pre .0 .0) (x .len) in
-    ripe (memory c) g (omega arith) (accepted g .columns-some) (centred c .centres .ensures) (omega arith) (x .holds)
+    ripe (memory c) g (omega arith) (accepted g .columns-some) (centred (c .before) .centres .ensures) (omega arith) (x .holds)
 
 -- and the next column
 next : (c : tie.After-next-column Inv-loop μ-loop) → let l = head c in let a = begin l .args in
-    Ripe (a .shape) (a .image .now) (a .i) (line (centred (column l))) (memory2 c) (l .loop .j + 1) (l .loop .base + a .shape .cycle)
+    Ripe (a .shape) (a .image .now) (a .i) (line (centred (column l .before))) (memory2 c) (l .loop .j + 1) (l .loop .base + a .shape .cycle)
 next c =
     let l = head c in
     let s = begin l in
     let y = c .next-column .ensures in
     let g = given-kept (s .pre .0 .0) (y .len ∙ l .loop .inv .3 .len ∙ column l .first-column .ensures .len) in
-    ripe (memory2 c) g (omega arith) (omega arith) (centred (column l) .centres .ensures) (omega (arith, l .loop .inv .1)) (y .holds)
+    ripe (memory2 c) g (omega arith) (omega arith) (centred (column l .before) .centres .ensures) (omega (arith, l .loop .inv .1)) (y .holds)
 
 centres-requires : tie.Need-centres-requires Inv-loop μ-loop
-centres-requires c κs = let s = start c in (ready-longest (s .pre .0 .0 .ready), s .pre .1 .0, s .pre .0 .2)
+centres-requires c κs = let s = start c in (ready-longest (s .pre .0 .0 .ready), s .pre .1 .0, s .pre .0 .2, s .pre .0 .3)
 
 first-column-requires : tie.Need-first-column-requires Inv-loop μ-loop
-first-column-requires c κs = let s = start (c .before .before .before .before) in ((s .pre .0 .0, s .pre .0 .1), s .pre .1 .0)
+first-column-requires c κs = let s = opened c in ((s .pre .0 .0, s .pre .0 .1), s .pre .1 .0)
 
 settled-requires : tie.Need-settled-requires Inv-loop μ-loop
 settled-requires c κs = first (c .before .before .before .before) .choosable
 
 slice-write-out : tie.Need-slice-write-out Inv-loop μ-loop
 slice-write-out c =
-    let s = start (centred (c .before .before .before .before .before) .before) in
+    let f = c .before .before .before .before .before in
+    let s = opened (f .before) in
     omega (arith, accepted (s .pre .0 .0))
 
 loop-holds : tie.Need-loop-holds Inv-loop μ-loop
 loop-holds c =
     let f = c .before .before .before .before .before in
-    let s = start (centred f .before) in
+    let s = opened (f .before) in
     let a = s .args in
     let some = accepted (s .pre .0 .0) .columns-some in (
       some,
@@ -147,10 +152,10 @@ same-length : tie.Need-same-length Inv-loop μ-loop
 same-length c = c .before .loop .inv .3 .len ∙ column (c .before) .first-column .ensures .len
 
 same-length-2 : tie.Need-same-length-2 Inv-loop μ-loop
-same-length-2 c = centred (column (c .before)) .centres .ensures .len ∙ sym (begin (c .before) .pre .0 .2)
+same-length-2 c = centred (column (c .before) .before) .centres .ensures .len ∙ sym (begin (c .before) .pre .0 .2)
 
-same-length-3 : tie.Need-same-length-3 Inv-loop μ-loop
-same-length-3 c = c .before .loop .inv .4 .len ∙ sym (begin (c .before) .pre .1 .1)
+same-length-4 : tie.Need-same-length-4 Inv-loop μ-loop
+same-length-4 c = c .before .loop .inv .4 .len ∙ sym (begin (c .before) .pre .1 .1)
 
 returns : tie.Need-returns Inv-loop μ-loop
 returns c =
@@ -188,5 +193,6 @@ first-row-spec =
     loop-again
     same-length
     same-length-2
-    same-length-3
+    (λ c. search needs)
+    same-length-4
     returns)

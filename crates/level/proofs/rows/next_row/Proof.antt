@@ -16,25 +16,29 @@ use Rattle.level.proofs.rows.next_row.Statement.{statement}
 use Rattle.level.proofs.rows.next_row.Tie as tie
 
 abbrev Inv-loop : tie.InvT-loop
-Inv-loop shape image work₀ table centres i out₀ cycle columns change least j₀ base₀ work out j base = (j < columns) × (base ≡ j * shape .cycle) ×
+Inv-loop shape image work₀ table centres row i out₀ cycle columns change least j₀ base₀ work out j base = (j < columns) × (base ≡ j * shape .cycle) ×
     RowSums shape image (i + 1) work 0 (j + 1) × RowSums shape image i work (j + 1) columns × Holds work change (shape .cycle) (rowChange shape image i j) ×
     Outside work₀ work 0 (levelNeed shape) × RowSoFar shape image (i + 1) out (j + 1)
 
 abbrev μ-loop : tie.MeasureT-loop
-μ-loop shape image work₀ table centres i out₀ cycle columns change least j₀ base₀ work out j base = columns - j
+μ-loop shape image work₀ table centres row i out₀ cycle columns change least j₀ base₀ work out j base = columns - j
 
--- from the head of the loop: column 0 moved down, the centres in their line, where the call began
+-- column 0 moved down, from the head of the loop; the centres in their line and where the call began, from before column 0 is moved down;
+-- where the call began, from the head of the loop
 abbrev column : tie.At-loop Inv-loop μ-loop → tie.After-start-row Inv-loop μ-loop
 column c = c .before .before .before .before .before .before
 
-abbrev centred : tie.After-start-row Inv-loop μ-loop → tie.After-centres Inv-loop μ-loop
-centred c = c .before .before .before .before
+abbrev centred : tie.After-start-row-arg Inv-loop μ-loop → tie.After-centres Inv-loop μ-loop
+centred c = c .before .before .before .before .before
 
 abbrev start : tie.After-struct-known2 Inv-loop μ-loop → tie.Start Inv-loop μ-loop
-start c = c .before .before .before .before .before .before .before
+start c = c .before .before .before .before .before .before .before .before
+
+abbrev opened : tie.After-start-row-arg Inv-loop μ-loop → tie.Start Inv-loop μ-loop
+opened c = start (centred c .before .before .before)
 
 abbrev begin : tie.At-loop Inv-loop μ-loop → tie.Start Inv-loop μ-loop
-begin c = start (centred (column c) .before .before)
+begin c = opened (column c .before)
 
 -- within a turn: the next column moved down, the head of the loop
 abbrev columned : tie.After-phase-of2 Inv-loop μ-loop → tie.After-advance Inv-loop μ-loop
@@ -55,33 +59,33 @@ abbrev line : tie.After-centres Inv-loop μ-loop → List ℕ
 line c = c .centres .last .1 .1 .1 .0
 
 -- column 0 may be chosen
-first : (c : tie.After-start-row Inv-loop μ-loop) → let a = start (centred c .before .before) .args in
-    Ripe (a .shape) (a .image .now) (a .i + 1) (line (centred c)) (memory c) 0 0
+first : (c : tie.After-start-row Inv-loop μ-loop) → let a = opened (c .before) .args in
+    Ripe (a .shape) (a .image .now) (a .i + 1) (line (centred (c .before))) (memory c) 0 0
 first c =
-    let s = start (centred c .before .before) in
+    let s = opened (c .before) in
     let x = c .start-row .ensures .0 in
     let g = given-kept (s .pre .0 .0) (x .len) in
-    ripe (memory c) g (omega arith) (accepted g .columns-some) (centred c .centres .ensures) (omega arith) (x .first)
+    ripe (memory c) g (omega arith) (accepted g .columns-some) (centred (c .before) .centres .ensures) (omega arith) (x .first)
 
 -- and the next column
 next : (c : tie.After-advance Inv-loop μ-loop) → let l = head c in let a = begin l .args in
-    Ripe (a .shape) (a .image .now) (a .i + 1) (line (centred (column l))) (memory2 c) (l .loop .j + 1) (l .loop .base + a .shape .cycle)
+    Ripe (a .shape) (a .image .now) (a .i + 1) (line (centred (column l .before))) (memory2 c) (l .loop .j + 1) (l .loop .base + a .shape .cycle)
 next c =
     let l = head c in
     let s = begin l in
     let y = c .advance .ensures .0 in
     let g = given-kept (s .pre .0 .0) (y .len ∙ l .loop .inv .5 .len ∙ column l .start-row .ensures .0 .len) in
-    ripe (memory2 c) g (omega arith) (omega arith) (centred (column l) .centres .ensures) (omega (arith, l .loop .inv .1)) (y .first)
+    ripe (memory2 c) g (omega arith) (omega arith) (centred (column l .before) .centres .ensures) (omega (arith, l .loop .inv .1)) (y .first)
 
 mul-change : tie.Need-mul-change Inv-loop μ-loop
 mul-change c = omega (arith, need-fits (start c .pre .0 .0))
 
 centres-requires : tie.Need-centres-requires Inv-loop μ-loop
-centres-requires c κs = let s = start (c .before) in (ready-longest (s .pre .0 .0 .ready), s .pre .1 .0, s .pre .0 .2)
+centres-requires c κs = let s = start (c .before .before) in (ready-longest (s .pre .0 .0 .ready), s .pre .1 .0, s .pre .0 .2, s .pre .0 .3)
 
 start-row-requires : tie.Need-start-row-requires Inv-loop μ-loop
 start-row-requires c κs =
-    let s = start (c .before .before .before .before .before) in
+    let s = opened c in
     let a = s .args in
     let g = s .pre .0 .0 in (
       (g, s .pre .0 .1),
@@ -95,19 +99,20 @@ start-row-requires c κs =
 phase-of-requires : tie.Need-phase-of-requires Inv-loop μ-loop
 phase-of-requires c κs =
     let r = c .before .before .before .before in
-    let a = start (centred r .before .before) .args in
+    let a = opened (r .before) .args in
     let x = r .start-row .ensures in
     (first r .choosable, lowest-held (memory r) 0 (a .shape .cycle) (windowSum (a .shape) (a .image .now) (a .i + 1) 0) (x .0 .first) (x .1))
 
 slice-write-out : tie.Need-slice-write-out Inv-loop μ-loop
 slice-write-out c =
-    let s = start (centred (c .before .before .before .before .before) .before .before) in
+    let r = c .before .before .before .before .before in
+    let s = opened (r .before) in
     omega (arith, accepted (s .pre .0 .0))
 
 loop-holds : tie.Need-loop-holds Inv-loop μ-loop
 loop-holds c =
     let r = c .before .before .before .before .before in
-    let s = start (centred r .before .before) in
+    let s = opened (r .before) in
     let a = s .args in
     let x = r .start-row .ensures .0 in
     let some = accepted (s .pre .0 .0) .columns-some in (
@@ -143,6 +148,9 @@ advance-requires c κs =
         ),
       ),
     )
+
+add-j : tie.Need-add-j Inv-loop μ-loop
+add-j c = omega (arith, accepted (begin (head (c .before .before)) .pre .0 .0) .columns-fit)
 
 phase-of-requires-2 : tie.Need-phase-of-requires-2 Inv-loop μ-loop
 phase-of-requires-2 c κs =
@@ -183,10 +191,10 @@ same-length : tie.Need-same-length Inv-loop μ-loop
 same-length c = c .before .loop .inv .5 .len ∙ column (c .before) .start-row .ensures .0 .len
 
 same-length-2 : tie.Need-same-length-2 Inv-loop μ-loop
-same-length-2 c = centred (column (c .before)) .centres .ensures .len ∙ sym (begin (c .before) .pre .0 .2)
+same-length-2 c = centred (column (c .before) .before) .centres .ensures .len ∙ sym (begin (c .before) .pre .0 .2)
 
-same-length-3 : tie.Need-same-length-3 Inv-loop μ-loop
-same-length-3 c = c .before .loop .inv .6 .len ∙ sym (begin (c .before) .pre .1 .1)
+same-length-4 : tie.Need-same-length-4 Inv-loop μ-loop
+same-length-4 c = c .before .loop .inv .6 .len ∙ sym (begin (c .before) .pre .1 .1)
 
 returns : tie.Need-returns Inv-loop μ-loop
 returns c =
@@ -218,7 +226,7 @@ next-row-spec =
     (λ c. search needs)
     add-base
     advance-requires
-    (λ c. search needs)
+    add-j
     phase-of-requires-2
     mul-out
     slice-write-out-2
@@ -226,5 +234,6 @@ next-row-spec =
     loop-again
     same-length
     same-length-2
-    same-length-3
+    (λ c. search needs)
+    same-length-4
     returns)

@@ -15,6 +15,10 @@ use Rattle.level.proofs.rows.with_table.Tie as tie
 abbrev start : tie.After-table → tie.Start
 start c = c .before .before .before .before .before .before
 
+-- the table is filled, from where the lines are lent
+abbrev filled : tie.After-row → tie.After-distances
+filled c = c .before .before .before .before .before .before
+
 returns : tie.Need-returns
 returns c = record { phases = rw (c .if1 .taken) (sym (written-none _ _ _)); outside = outside-none }
 
@@ -23,9 +27,10 @@ distances-requires c κs = (accepted (start c .pre .given) .cycle-fits, refl)
 
 each-row-requires : tie.Need-each-row-requires
 each-row-requires c κs =
-    let d = c .before .before .before .before .before in
+    let d = filled c in
     let s = start (d .before) in
-    ((s .pre, omega (arith, s .pre .order, d .before .before .before .if1 .left)), (d .distances .ensures, length-replicate {A = ℕ} lineLength 0))
+    let line = length-replicate {A = ℕ} lineLength 0 in
+    ((s .pre, omega (arith, s .pre .order, d .before .before .before .if1 .left)), (d .distances .ensures, line, line))
 
 pub with-table-spec : {M : Type 1} → statement M
 with-table-spec =
@@ -35,6 +40,7 @@ with-table-spec =
     (λ c. search needs)
     (λ c. search needs)
     distances-requires
+    (λ c. search needs)
     (λ c. search needs)
     (λ c. search needs)
     each-row-requires

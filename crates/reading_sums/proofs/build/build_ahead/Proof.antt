@@ -4,8 +4,11 @@ use Prim.Native.Nat.{_+_, _-_, _*_, _≤_}
 use mathlib.Core.Path.{_≡_, _∙_}
 use native.Mathlib.Omega.{arith}
 use borrow.Author.Needs.{needs}
+use lib.ListN.{getD}
 use Rattle.lines.specs.Lines.{IsLine}
-use Rattle.reading_planes.specs.Planes.{ofRows, none, planes}
+use Rattle.reading_lines.specs.Passes.{marks}
+use Rattle.reading_lines.proofs.Marks.{mark-small}
+use Rattle.reading_planes.specs.Planes.{ofRows, none, marked, planes}
 use Rattle.reading_planes.proofs.Sums.{plane-within, line-room, planes-fit}
 use Rattle.reading_sums.proofs.SweepAhead.{SweepAhead, sweep-none, sweep-more, sweep-all}
 use Rattle.reading_sums.proofs.build.build_ahead.Statement.{statement}
@@ -13,13 +16,13 @@ use Rattle.reading_sums.proofs.build.build_ahead.Tie as tie
 
 abbrev Inv-loop : tie.InvT-loop
 Inv-loop shape image i work₀ base own last row₀ other₀ change₀ step₀ columns mask m₀ work row other change step m =
-    SweepAhead shape base none (ofRows shape image i own) none work₀ work change m × IsLine row × IsLine other × IsLine change × IsLine step
+    SweepAhead shape base (marks own) (marked own) (ofRows shape image i own) none work₀ work change m × IsLine row × IsLine other × IsLine change × IsLine step
 
 abbrev μ-loop : tie.MeasureT-loop
 μ-loop shape image i work₀ base own last row₀ other₀ change₀ step₀ columns mask m₀ work row other change step m = shape .«mask_columns» - m
 
 -- back to places that the answers go by
-abbrev begun : tie.After-clear-arg Inv-loop μ-loop → tie.Start Inv-loop μ-loop
+abbrev begun : tie.After-begin-arg Inv-loop μ-loop → tie.Start Inv-loop μ-loop
 begun c = c .before .before .before .before .before .before .before .before .before .before .before
 
 abbrev start : tie.At-loop Inv-loop μ-loop → tie.Start Inv-loop μ-loop
@@ -39,14 +42,17 @@ plane-room : (c : tie.In-loop Inv-loop μ-loop) → let s = start (c .before) .a
     (s .«mask_columns» - 1 - c .before .loop .m) * s .columns + s .columns ≤ planes s
 plane-room c = plane-within (start (c .before) .args .shape) _ (omega (arith, c .loop-test .taken))
 
-clear-requires : tie.Need-clear-requires Inv-loop μ-loop
-clear-requires c κs = let s = begun c in omega (arith, line-room (s .args .shape) (s .pre .0 .0 .shape), s .pre .1 .1 .2)
+begin-requires : tie.Need-begin-requires Inv-loop μ-loop
+begin-requires c κs =
+    let s = begun c in
+    let n = line-room (s .args .shape) (s .pre .0 .0 .shape) in
+    (omega (arith, n, s .pre .1 .1 .2), omega (arith, n, s .pre .1 .0 .0 .len))
 
 loop-holds : tie.Need-loop-holds Inv-loop μ-loop
 loop-holds c =
     let d = c .before .before in
     let s = begun (d .before) in
-    (sweep-none (d .clear .ensures), s .pre .1 .1 .0, s .pre .1 .1 .1, d .clear .ensures .len ∙ s .pre .1 .1 .2, s .pre .1 .1 .3)
+    (sweep-none (λ p. omega (arith, mark-small (getD (s .args .own .now) p 0))) (d .begin .ensures), s .pre .1 .1 .0, s .pre .1 .1 .1, d .begin .ensures .len ∙ s .pre .1 .1 .2, s .pre .1 .1 .3)
 
 count-rows-requires : tie.Need-count-rows-requires Inv-loop μ-loop
 count-rows-requires c κs =
@@ -93,8 +99,8 @@ loop-again c =
     let here : 0 + t .before .loop .m ≡ t .before .loop .m = omega arith in
     let l = start (t .before) .args .shape .«mask_columns» - 1 - t .before .loop .m in
     let kept = o .count-rows .kept .1 .1 .1 .1 .1 .1 .1 in (
-      sweep-more (inv .0) (t .loop-test .taken) (rw here at (o .count-rows .ensures)) (d .put .ensures)
-          (λ j h. omega (arith, z .slice-known9 .given (l + j))),
+      sweep-more (inv .0) (t .loop-test .taken) (λ j. 0) (rw here at (o .count-rows .ensures)) (d .put .ensures)
+          (λ j h. omega (arith, z .slice-known9 .given (l + j))) (λ j h. omega arith),
       kept .0 ∙ inv .1,
       kept .1 .0 ∙ inv .2,
       kept .1 .1 .0 ∙ inv .3,
@@ -113,7 +119,7 @@ build-ahead-spec =
     (λ c. search needs)
     (λ c. search needs)
     (λ c. search needs)
-    clear-requires
+    begin-requires
     loop-holds
     (λ c. search needs)
     (λ c. search needs)

@@ -1,28 +1,34 @@
 -- `reading_sums::build::count_rows` meets its contract: after k rows, an even number of them, the changes count those k; the last row,
 -- which the loop leaves over, is the one lent as `last`. Assumes nothing.
-use Prim.Native.Nat.{_+_, _-_, _%_, _≤_, _<_}
+use Prim.Native.Nat.{ℕ, _+_, _-_, _%_, _≤_, _<_}
 use mathlib.Core.Path.{_≡_, refl, sym, _∙_}
+use mathlib.Core.List.{List}
 use native.Mathlib.Omega.{arith}
 use borrow.Author.Needs.{needs}
 use Rattle.refusal.specs.Limits.{longestCycle}
 use Rattle.shape.proofs.Accepted.{Accepted}
-use Rattle.lines.specs.Lines.{IsLine, lineLength, paddedLength}
+use Rattle.lines.specs.Lines.{IsLine, Reads, lineLength, paddedLength}
+use Rattle.reading_lines.specs.Passes.{Measurable}
 use Rattle.reading_planes.proofs.Sums.{sizes, line-room, row-inside}
+use Rattle.reading_sums.proofs.Measured.{short-plain, measurable}
 use Rattle.reading_sums.proofs.Turns.{Rows, rows-none, rows-one, rows-two, rows-counted}
 use Rattle.reading_sums.proofs.build.count_rows.Statement.{statement}
 use Rattle.reading_sums.proofs.build.count_rows.Tie as tie
 
 abbrev Inv-loop : tie.InvT-loop
-Inv-loop shape image i own start at last row₀ other₀ change₀ step₀ cycle rows n k₀ row other change step k =
+Inv-loop shape image i own start at last row₀ other₀ change₀ step₀ cycle plain rows n k₀ row other change step k =
     (k < shape .«mask_rows») × (k % 2 ≡ 0) × Rows shape image i own start at n k change₀ change
     × IsLine row × IsLine other × IsLine change × IsLine step
 
 abbrev μ-loop : tie.MeasureT-loop
-μ-loop shape image i own start at last row₀ other₀ change₀ step₀ cycle rows n k₀ row other change step k = shape .«mask_rows» - k
+μ-loop shape image i own start at last row₀ other₀ change₀ step₀ cycle plain rows n k₀ row other change step k = shape .«mask_rows» - k
 
 -- back to places that the answers go by
+abbrev asked : tie.After-struct-known4 Inv-loop μ-loop → tie.After-is-short Inv-loop μ-loop
+asked c = c .before .before .before
+
 abbrev changes : tie.After-struct-known4 Inv-loop μ-loop → tie.After-slice-known3 Inv-loop μ-loop
-changes c = c .before .before .before .before .before
+changes c = asked c .before .before .before
 
 abbrev begun : tie.After-slice-known3 Inv-loop μ-loop → tie.Start Inv-loop μ-loop
 begun c = c .before .before .before .before .before .before
@@ -59,6 +65,16 @@ inside : (s : tie.Start Inv-loop μ-loop)
     → s .args .at + (s .args .shape .columns + (s .args .shape .«mask_columns» - 1 - (s .args .start + s .args .at))) ≤ paddedLength (s .args .shape)
 inside s = omega (arith, s .pre .0 .2, accepted s .mask-columns-odd)
 
+-- the readings of the line may be measured against those of a row
+shown : (l : tie.At-loop Inv-loop μ-loop) {row : List ℕ} → let a = start l .args in Reads (a .shape) row
+    → Measurable (asked (l .before) .is-short .result) (a .shape .cycle) (a .own .now) row (a .start) (a .at)
+    (a .shape .columns + (a .shape .«mask_columns» - 1 - (a .start + a .at)))
+shown l {row} x =
+    let s = start l in
+    let a = s .args in
+    measurable (a .shape) (s .pre .0 .0 .shape) (s .pre .1 .0 .0) x (short-plain (a .shape) (a .own .now) row (asked (l .before) .is-short .ensures)) (a .start) (a .at) _
+    (omega (arith, s .pre .0 .2, accepted s .mask-columns-odd)) (inside s)
+
 cast-cycle : tie.Need-cast-cycle Inv-loop μ-loop
 cast-cycle c = omega (arith, accepted (begun (c .before .before)) .cycle-fits)
 
@@ -94,12 +110,7 @@ distances-to-two-requires c κs =
     let e = c .before .before .before .before .before in
     let t = turn (one e) in
     let s = start (t .before) in
-    let n = room s in (
-      omega (arith, n, s .pre .0 .2, s .pre .1 .0 .0),
-      omega (arith, n, s .pre .0 .2, one e .pad .ensures .len),
-      omega (arith, n, s .pre .0 .2, e .pad2 .ensures .len),
-      omega (arith, n, s .pre .0 .2, t .before .loop .inv .6),
-    )
+    (shown (t .before) (one e .pad .ensures .reads), shown (t .before) (e .pad2 .ensures .reads), omega (arith, room s, s .pre .0 .2, t .before .loop .inv .6))
 
 grow-requires : tie.Need-grow-requires Inv-loop μ-loop
 grow-requires c κs =
@@ -134,11 +145,7 @@ loop-again c =
 distances-requires : tie.Need-distances-requires Inv-loop μ-loop
 distances-requires c κs =
     let s = start (c .before .before) in
-    let n = room s in (
-      omega (arith, n, s .pre .0 .2, s .pre .1 .0 .0),
-      omega (arith, n, s .pre .0 .2, s .pre .1 .0 .1 .len),
-      omega (arith, n, s .pre .0 .2, c .before .before .loop .inv .6),
-    )
+    (shown (c .before .before) (s .pre .1 .0 .1 .reads), omega (arith, room s, s .pre .0 .2, c .before .before .loop .inv .6))
 
 grow-requires-2 : tie.Need-grow-requires-2 Inv-loop μ-loop
 grow-requires-2 c κs =
@@ -184,6 +191,7 @@ count-rows-spec =
     Inv-loop
     μ-loop
     cast-cycle
+    (λ c κs. search needs)
     (λ c. search needs)
     (λ c. search needs)
     (λ c. search needs)

@@ -2,14 +2,18 @@
 -- Assumes nothing.
 use Prim.Native.Nat.{ℕ, _+_, _-_, _%_, _^_, _≤_}
 use mathlib.Core.Path.{_≡_, refl, ap, sym, _∙_}
+use mathlib.Core.Bool.{true}
+use mathlib.Core.List.{List}
 use native.Mathlib.Omega.{arith}
 use borrow.Author.Needs.{needs}
 use lib.ListN.{getD}
 use Rattle.memory.proofs.Memory.{changed-is}
-use Rattle.lines.specs.Lines.{lineLength}
-use Rattle.reading_lines.specs.Passes.{ofLine}
+use Rattle.lines.specs.Lines.{Reads, lineLength}
+use Rattle.reading_lines.specs.Passes.{Measurable, ofLine}
 use Rattle.reading_planes.proofs.Sums.{sizes, line-room}
 use Rattle.reading_planes.proofs.Sweeps.{behind-more}
+use Rattle.reading_sums.specs.CarryLines.{Plain}
+use Rattle.reading_sums.proofs.Measured.{measurable}
 use Rattle.reading_sums.proofs.Turns.{counted-steps}
 use Rattle.reading_sums.proofs.carry.carry_on.Statement.{statement}
 use Rattle.reading_sums.proofs.carry.carry_on.Tie as tie
@@ -34,15 +38,19 @@ room s = line-room (s .args .shape) (s .pre .0 .0)
 cast-steps : tie.Need-cast-steps
 cast-steps c = let s = begun c in omega (arith, sizes (s .args .shape) (s .pre .0 .0) .cycle-fits)
 
+-- the readings of the line may be measured against those of a row
+shown : (s : tie.Start) {row : List ℕ} → let a = s .args in Reads (a .shape) row → (a .plain ≡ true → Plain (a .shape) (a .own .now) row)
+    → Measurable (a .plain) (a .shape .cycle) (a .own .now) row (a .l + 1) 0 (a .shape .columns + (a .shape .«mask_columns» - 2 - a .l))
+shown s y p =
+    let a = s .args in
+    let odd = sizes (a .shape) (s .pre .0 .0) .mask-columns-odd in
+    measurable (a .shape) (s .pre .0 .0) (s .pre .1 .0 .own-reads) y p (a .l + 1) 0 _ (omega (arith, odd, s .pre .0 .1)) (omega (arith, odd, s .pre .0 .1))
+
 steps-requires : tie.Need-steps-requires
 steps-requires c κs =
     let s = begun (c .before) in
-    let n = room s in (
-      omega (arith, n, s .pre .1 .0 .own-line, s .pre .0 .1),
-      omega (arith, n, s .pre .1 .0 .entering-line, s .pre .0 .1),
-      omega (arith, n, s .pre .1 .0 .leaving-line, s .pre .0 .1),
-      omega (arith, n, s .pre .1 .0 .step-line, s .pre .0 .1),
-    )
+    let x = s .pre .1 .0 in
+    (shown s (x .entering-reads) (x .entering-plain), shown s (x .leaving-reads) (x .leaving-plain), omega (arith, room s, x .step-line, s .pre .0 .1))
 
 move-add-requires : tie.Need-move-add-requires
 move-add-requires c κs =

@@ -13,7 +13,7 @@ use Rattle.refusal.specs.Outcome.{Rule, firstDue, verdict}
 use Rattle.refusal.specs.Outcome.Outcome.{accepted, refused}
 use Rattle.refusal.proofs.Outcome.{passed-on, refused-before}
 use Rattle.cycle.specs.Calls.{readingRule}
-use Rattle.cycle.specs.Distance.{isReading}
+use Rattle.cycle.specs.Silence.{isReading}
 use Rattle.record_format.specs.Layout.{numbersLength}
 use Rattle.record_format.specs.Fields.{rowTag}
 use Rattle.record_format.specs.Reading.{cycleIn, columnsIn, rowAt, rowIn, placedAfter, fieldRules, rowFieldRules}
