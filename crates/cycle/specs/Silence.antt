@@ -12,6 +12,7 @@ use Rattle.cycle.specs.Distance.{isTick}
 abbrev pub silent : ℕ
 silent = 65535
 
+-- z is the reading of a wake that was heard
 unfoldable pub isHeard : ℕ → Bool
 isHeard z = not (eqb z silent)
 

@@ -70,7 +70,7 @@ pub fn next_of(x: u16) -> u16
     wrapping_add_u16(x, 1)
 }
 
-// The index of the first reading that is none, or the number of readings, one reading after the other.
+// The index of the first entry that is neither a tick nor silent, or the number of entries; one after the other.
 fn search(cycle: u32, readings: &[u16]) -> usize
     ensures { λ r. ⌜ r ≡ firstBad (isReading cycle) (now (readings .entry)) ⌝ }
 {
@@ -84,7 +84,7 @@ fn search(cycle: u32, readings: &[u16]) -> usize
     i
 }
 
-// The same. Most often all readings are good, and then the highest of the numbers after them tells it.
+// The same. Most often there is none, and then the highest of the numbers after the entries tells it.
 fn first_bad(cycle: u32, readings: &[u16]) -> usize
     ensures { λ r. ⌜ r ≡ firstBad (isReading cycle) (now (readings .entry)) ⌝ }
 {

@@ -23,7 +23,7 @@ pub enum Refusal {
     Buffer,
     // 8: the work memory is too short.
     Work,
-    // 9: a reading, tick or width is no tick of the cycle; its index.
+    // 9: a tick or width is no tick of the cycle, or a reading neither a tick nor silent; its index.
     Reading(usize),
     // 10: the record ends within a field; the offset of the field.
     Cut(usize),
