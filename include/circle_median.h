@@ -16,7 +16,7 @@
  *       1  the cycle is 0, or longer than the call takes: 65,535; 4,096 for the level engine
  *       2  rows outside 1 to 1,024, or columns (or a row's length) outside 1 to 8,192
  *       3  a mask side that is even, or above 255
- *       4  half a mask side, rounded down, is above the rows or the columns
+ *       4  reserved: a mask may be longer than the image, and no call is refused so any more
  *       5  first is above end, or end above rows
  *       6  the input, or the readings to write, are not rows * columns
  *       7  an output, readings or bytes buffer is too short
@@ -74,7 +74,10 @@ typedef struct circle_median_record_answer {
  *
  * input has rows * columns readings, row by row; output at least as many numbers, of which those of the range are
  * written, each at its own spot of the whole image; work at least cycle * (columns + 1) numbers, which are zero at
- * the end. Whatever output and work held before makes no difference. 1 to 9 are tested.
+ * the end. Whatever output and work held before makes no difference. 1, 2, 3 and 5 to 9 are tested.
+ *
+ * At the edges the image is mirrored, the edge repeated, as often as the mask needs: an index i on an axis of n stands
+ * for k = i modulo 2 n if k is below n, and else for 2 n - 1 - k.
  *
  * A spot gets the heard reading of its window that has the least sum of distances to them all; of several the one
  * nearest to the centre, and of two the one ahead of it. If the centre is silent, the first heard reading of the
@@ -109,14 +112,14 @@ circle_median_value_answer circle_median_slot(uint32_t cycle, uint16_t p, uint16
 circle_median_value_answer circle_median_drift(uint32_t cycle, const uint16_t *row, size_t row_length);
 
 /* Writes a record to the front of bytes; the value is its length, 22 + rows * (3 + 2 * columns). A silent reading is
- * written as FF FF. 1, 2, 3, 4, 6, 7 and 9 are tested. */
+ * written as FF FF. 1, 2, 3, 6, 7 and 9 are tested. */
 circle_median_value_answer circle_median_write(
     uint32_t cycle, uint32_t rows, uint32_t columns, uint32_t mask_rows, uint32_t mask_columns,
     const uint16_t *readings, size_t readings_length,
     uint8_t *bytes, size_t bytes_length);
 
 /* Reads a record, which must fill all of bytes; its rows * columns readings stand at the front of readings, FF FF as
- * silent on every cycle. Any refusal but 5, 6 and 8 can come. */
+ * silent on every cycle. Any refusal but 4, 5, 6 and 8 can come. */
 circle_median_record_answer circle_median_read(
     const uint8_t *bytes, size_t bytes_length,
     uint16_t *readings, size_t readings_length);

@@ -1,5 +1,5 @@
-"""Document 01, with document 02's silent wakes (T-01), in Python, by direct sums: no running sums, and nothing shared with the
-crates.
+"""Document 01, with document 02's silent wakes (T-01) and repeated mirror (T-02), in Python, by direct sums: no running sums, and
+nothing shared with the crates.
 
 The stored outputs of the test programs are made with it. A call returns its result, or a Refusal. A reading, in an image, a
 row or a record, is a tick of the cycle or silent; an argument of distance, step or slot is a tick.
@@ -82,12 +82,8 @@ def mask_fault(r, t):
     return any(side % 2 == 0 or not 1 <= side <= 255 for side in (r, t))
 
 
-def reflection_fault(m, n, r, t):
-    return (r - 1) // 2 > m or (t - 1) // 2 > n
-
-
 def shape_refusal(limit, shape):
-    """Tests 1 to 4 on a cycle, an image's size and a mask's size."""
+    """Tests 1 to 3 on a cycle, an image's size and a mask's size. 4 is never given."""
     c, m, n, r, t = shape
     if not 1 <= c <= limit:
         return Refusal(1, 0)
@@ -95,8 +91,6 @@ def shape_refusal(limit, shape):
         return Refusal(2, 0)
     if mask_fault(r, t):
         return Refusal(3, 0)
-    if reflection_fault(m, n, r, t):
-        return Refusal(4, 0)
     return None
 
 
@@ -106,7 +100,7 @@ DEFAULT_MASK = (1, 3)
 
 
 def write_record(c, m, n, r, t, readings, room):
-    """The record's bytes, or a Refusal: 1, 2, 3, 4, 6, 7, 9 in this order."""
+    """The record's bytes, or a Refusal: 1, 2, 3, 6, 7, 9 in this order."""
     refusal = shape_refusal(65535, (c, m, n, r, t))
     if refusal:
         return refusal
@@ -164,8 +158,6 @@ def read_record(record, room):
         r, t = field(3, 0, 4) or DEFAULT_MASK
         if mask_fault(r, t):
             stop(3)
-        if reflection_fault(m, n, r, t):
-            stop(4)
         if room < m * n:
             stop(7)
         readings = []
@@ -184,10 +176,9 @@ def read_record(record, room):
 
 
 def mirrored(size, x):
-    """A place beyond an edge, as its mirror on a line of that many places, the edge repeated."""
-    if x < 0:
-        return -1 - x
-    return 2 * size - 1 - x if x >= size else x
+    """An index of a line of that many places, or one beyond its edges, as what it stands for: mirrored as often as necessary."""
+    k = x % (2 * size)
+    return k if k < size else 2 * size - 1 - k
 
 
 def window(shape, image, i, j):

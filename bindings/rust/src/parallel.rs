@@ -93,7 +93,7 @@ fn accept(
 ///
 /// The call is on these rows and the `reach` rows on either side, or up to the image's edge. So a window is mirrored
 /// where it is in the whole image, and has the same readings in the same order, the one that stands in for a silent
-/// centre included; and the part has more rows than `reach` or is the whole image: it is never refused.
+/// centre included: a window that is mirrored more than once reaches past all rows, and its part is the whole image.
 fn filter_part(engine: Engine, shape: Shape, first: u32, input: &[u16], output: &mut [u16], work: &mut [u32]) {
     let columns = shape.columns as usize;
     let reach = shape.mask_rows / 2;

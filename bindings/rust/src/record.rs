@@ -4,7 +4,7 @@ use crate::{sys, Refusal, Shape};
 
 /// Writes a record to the front of `bytes` and returns its length, which is [`record_len`](crate::record_len); the rest
 /// of `bytes` stays. `readings` are rows · columns, row by row; [`SILENT`](crate::SILENT) is written as FF FF.
-/// Refusals: 1, 2, 3, 4, 6, 7, 9, in this order.
+/// Refusals: 1, 2, 3, 6, 7, 9, in this order.
 ///
 /// ```
 /// use circle_median::{record_len, write, Shape};

@@ -10,7 +10,7 @@ use std::fmt;
 /// | 1 | the cycle is 0, above 65,535, or above 4,096 for the level engine | |
 /// | 2 | rows outside 1 to 1,024, or columns or a row's readings outside 1 to 8,192 | |
 /// | 3 | a mask side is even, 0 or above 255 | |
-/// | 4 | half a mask side, rounded down, is above the rows or the columns | |
+/// | 4 | reserved: a mask may be longer than the image, and no call is refused so any more | |
 /// | 5 | the first row is above the end row, or the end row above the rows | |
 /// | 6 | the input is not rows · columns readings long | |
 /// | 7 | the output, readings or byte buffer is too short | |
@@ -31,7 +31,7 @@ use std::fmt;
 /// ```
 #[derive(Debug, Clone, Copy, PartialEq, Eq, Hash)]
 pub struct Refusal {
-    /// The number of the test, from 1 to 13.
+    /// The number of the test, from 1 to 13; never 4.
     pub number: u32,
     /// Where it failed; 0 for the numbers that have no place.
     pub place: u64,
@@ -54,7 +54,6 @@ impl Refusal {
             1 => "the cycle is 0 or longer than the call takes",
             2 => "rows outside 1 to 1024, or columns or a row's readings outside 1 to 8192",
             3 => "a mask side is even, 0 or above 255",
-            4 => "half a mask side is above the rows or the columns",
             5 => "the first row is above the end row, or the end row above the rows",
             6 => "the input is not rows * columns readings long",
             7 => "the output, readings or byte buffer is too short",

@@ -1,4 +1,4 @@
-// The tests of a filter in rising order: 1 to 4 on the shape, then 5 to 9.
+// The tests of a filter in rising order: 1 to 3 on the shape, then 5 to 9.
 use crate::Engine;
 use crate::engines::limit_of;
 use crate::engines::need_of;
@@ -17,7 +17,7 @@ ghost use Rattle.refusal.specs.Outcome.{firstDue, verdict};
 ghost use Rattle.shape.specs.Rules.{shapeRules};
 ghost use Rattle.filter.specs.Calls.{limit, memoryRules, imageRules, roomDue, filterDue};
 
-// 1 to 4, for the cycles that an engine takes.
+// 1 to 3, for the cycles that an engine takes.
 fn sizes_verdict(engine: Engine, shape: Shape) -> Verdict
     ensures { λ r. ⌜ verdict r ≡ firstDue (shapeRules (limit engine) shape) tt ⌝ }
 {
@@ -57,7 +57,7 @@ fn image_verdict(
     }
 }
 
-// Whether an engine filters a good image of that shape, with so much output and work memory: 1 to 4, 7, 8.
+// Whether an engine filters a good image of that shape, with so much output and work memory: 1 to 3, 7, 8.
 pub fn room_verdict(engine: Engine, shape: Shape, output: usize, work: usize) -> Verdict
     ensures { λ r. ⌜ verdict r ≡ roomDue engine shape output work ⌝ }
 {

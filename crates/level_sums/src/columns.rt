@@ -14,7 +14,6 @@ ghost use lib.ListN.{length};
 ghost use Rattle.refusal.specs.Limits.{levelCycle};
 ghost use Rattle.cycle.specs.Silence.{isReading};
 ghost use Rattle.shape.specs.Need.{levelNeed};
-ghost use Rattle.shape.specs.Rules.{reach};
 ghost use Rattle.memory.specs.Memory.{Holds, Changed, ChangedBoth, lowest};
 ghost use Rattle.window.specs.Ready.{Ready};
 ghost use Rattle.lines.specs.Rows.{Given};
@@ -42,7 +41,6 @@ fn part_of(cycle: usize, y: u16) -> usize
 // Where the table's part starts for the reading at a row's and a column's position of the padded image.
 fn part_at(shape: Shape, image: &[u16], row_position: usize, column_position: usize) -> usize
     requires { ⌜ Ready levelCycle shape (now image) ⌝ }
-    requires { ⌜ («row_position» < shape .rows + 2 * reach (shape .«mask_rows»)) × («column_position» < shape .columns + 2 * reach (shape .«mask_columns»)) ⌝ }
     ensures { λ r. ⌜ PartAt shape (now (image .entry)) «row_position» «column_position» r ⌝ }
 {
     let row = mirrored(

@@ -1,3 +1,4 @@
 pub mod Padding
+pub mod Repeating
 pub mod Standing
 pub mod Given

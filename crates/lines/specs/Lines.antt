@@ -63,3 +63,7 @@ GoesOn line n k rows next = (next ≡ k) ⊎ ((next ≡ rows) × AllHeard line n
 -- a part of a row, read backwards from the number before `end`
 abbrev pub backwards : List ℕ → ℕ → ℕ → ℕ
 backwards row end q = getD row (end - 1 - q) 0
+
+-- from place `from` on, the number that stands a period before, in the same line
+abbrev pub repeated : List ℕ → ℕ → ℕ → ℕ → ℕ
+repeated line from period q = getD line (from + q - period) 0

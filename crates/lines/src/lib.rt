@@ -8,14 +8,13 @@ use shape::Shape;
 use window::mirrored;
 ghost use mathlib.Core.Path.{_≡_};
 ghost use mathlib.Core.Bool.{true};
-ghost use Prim.Native.Nat.{_+_, _*_, _≤_, _<_};
+ghost use Prim.Native.Nat.{_+_, _-_, _*_, _≤_, _<_, min};
 ghost use lib.ListN.{length};
 ghost use Rattle.refusal.specs.Limits.{longestCycle};
-ghost use Rattle.shape.specs.Rules.{reach};
 ghost use Rattle.memory.specs.Memory.{Changed};
 ghost use Rattle.memory.specs.Parts.{copied};
 ghost use Rattle.window.specs.Ready.{Ready};
-ghost use Rattle.lines.specs.Lines.{IsLine, Line, Centres, Standing, AllHeard, heardOr, stoodIn, GoesOn, backwards};
+ghost use Rattle.lines.specs.Lines.{IsLine, Line, Centres, Standing, AllHeard, heardOr, stoodIn, GoesOn, backwards, repeated};
 
 // The numbers in a line: a longest row, and a mask more at each end. A multiple of 512, so that lines one
 // after the other start alike.
@@ -45,9 +44,42 @@ fn copy_back(row: &[u16], end: usize, line: &mut [u16], to: usize, n: usize)
     }
 }
 
-// The line of the row at a position of the padded image.
+// Fills a line from a place up to another: each number is the one a period before it, in the line as it
+// then is.
+fn repeat(line: &mut [u16], from: usize, end: usize, period: usize)
+    requires { ⌜ (0 < period) × (period ≤ from) × (end ≤ length (now line)) ⌝ }
+    ensures { λ _. ⌜ Changed (now (line .entry)) (now (line .exit)) from (end - from) (repeated (now (line .exit)) from period) ⌝ }
+{
+    let mut p = from;
+    while p < end {
+        line[p] = line[p - period];
+        p += 1;
+    }
+}
+
+// Puts the n numbers that follow the first n of a line there, backwards.
+fn reflect(line: &mut [u16], n: usize)
+    requires { ⌜ 2 * n ≤ length (now line) ⌝ }
+    ensures { λ _. ⌜ Changed (now (line .entry)) (now (line .exit)) 0 n (backwards (now (line .entry)) (2 * n)) ⌝ }
+{
+    let mut q = 0;
+    while q < n {
+        line[q] = line[2 * n - 1 - q];
+        q += 1;
+    }
+}
+
+// The lesser of two numbers.
+fn least(a: usize, b: usize) -> usize
+    ensures { λ r. ⌜ r ≡ min a b ⌝ }
+{
+    if a <= b { a } else { b }
+}
+
+// The line of the row at a position of the padded image: the row, its reflection behind it, the two
+// repeated as far as the padding goes on, and the start of all that reflected before it.
 pub fn pad(shape: Shape, image: &[u16], position: usize, line: &mut [u16])
-    requires { ⌜ Ready longestCycle shape (now image) × (position < shape .rows + 2 * reach (shape .«mask_rows»)) × IsLine (now line) ⌝ }
+    requires { ⌜ Ready longestCycle shape (now image) × IsLine (now line) ⌝ }
     ensures { λ _. ⌜ Line shape (now (image .entry)) position (now (line .exit)) ⌝ }
 {
     let columns = shape.columns as usize;
@@ -58,9 +90,16 @@ pub fn pad(shape: Shape, image: &[u16], position: usize, line: &mut [u16])
         position,
     )
         * columns;
-    copy_back(image, row + reach, line, 0, reach);
     copy_line(image, row, line, reach, columns);
-    copy_back(image, row + columns, line, reach + columns, reach);
+    copy_back(
+        image,
+        row + columns,
+        line,
+        reach + columns,
+        least(reach, columns),
+    );
+    repeat(line, reach + 2 * columns, columns + 2 * reach, 2 * columns);
+    reflect(line, reach);
 }
 
 // A centre, or else a reading where it is silent.

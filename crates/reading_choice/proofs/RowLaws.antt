@@ -34,7 +34,7 @@ use Rattle.window.proofs.Phase.{phase-at, phase-chosen, phase-none}
 use Rattle.lines.specs.Lines.{Line, Centres}
 use Rattle.reading_lines.proofs.Marks.{mark-none, mark-silent}
 use Rattle.reading_planes.specs.Sums.{readingSum}
-use Rattle.reading_planes.proofs.Sums.{sum-signed, row-inside}
+use Rattle.reading_planes.proofs.Sums.{sum-signed}
 use Rattle.reading_choice.specs.Ranks.{ranked, unweighedSum, unweighedRank, keptSum, keptRank, phaseBy, phasesBy}
 use Rattle.reading_choice.specs.Weighed.{RowWeighed}
 use Rattle.reading_choice.proofs.RankLaws.{rank-is}
@@ -56,8 +56,8 @@ module _ {s : Shape} {image : List ℕ} {i : ℕ} (ready : Ready longestCycle s 
   sizes = shape-clear longestCycle s (ready .shape)
 
   -- what the window holds are readings
-  reading : (a m : ℕ) → a < i + s .«mask_rows» → m + 1 < s .columns + s .«mask_columns» → isReading (s .cycle) (padded 0 s image a m) ≡ true
-  reading a m ha hm = padded-reading ready (omega arith) a m (omega (arith, sizes .mask-rows-odd)) (omega (arith, sizes .mask-columns-odd))
+  reading : (a m : ℕ) → isReading (s .cycle) (padded 0 s image a m) ≡ true
+  reading = padded-reading ready (omega arith)
 
   -- the heard ones of a part are ticks
   part-ticks : (j k l : ℕ) → j < s .columns → k < s .«mask_rows» → l ≤ s .«mask_columns» → Ticks (s .cycle) (heard (part 0 s image i j k l))
@@ -65,8 +65,8 @@ module _ {s : Shape} {image : List ℕ} {i : ℕ} (ready : Ready longestCycle s 
       let P : (ℕ → Type 0) = λ z. isReading (s .cycle) z ≡ true in
       heard-ticks (s .cycle) (part 0 s image i j k l)
       (each-append P (block (padded 0 s image) (s .«mask_columns») i j k) (tabulate (padded 0 s image (i + k)) j l)
-      (each-block (padded 0 s image) (s .«mask_columns») P i j k (λ a m p q u v. reading a m (omega arith) (omega arith)))
-      (each-tabulate P (padded 0 s image (i + k)) j l (λ m u v. reading (i + k) m (omega arith) (omega arith))))
+      (each-block (padded 0 s image) (s .«mask_columns») P i j k (λ a m p q u v. reading a m))
+      (each-tabulate P (padded 0 s image (i + k)) j l (λ m u v. reading (i + k) m)))
 
   -- so their sums are sums
   part-small : (j k l : ℕ) → j < s .columns → k < s .«mask_rows» → l ≤ s .«mask_columns» → (q : ℕ) → In q (heard (part 0 s image i j k l))
@@ -87,7 +87,7 @@ module _ {s : Shape} {image : List ℕ} {i : ℕ} (ready : Ready longestCycle s 
     pub plane-signed : (work : List ℕ) (plane : ℕ) {own : List ℕ} → Line s image (i + k) own
         → ((j : ℕ) → j < s .columns → getD work (plane + j) 0 ≡ readingSum s image i (i + k) l j) → Signed (copied work plane) (s .columns)
     plane-signed work plane x sums j h =
-        omega (arith, sums j h, sum-signed ready (row-inside s (ready .shape) i k hi hk) x l j hl h hi)
+        omega (arith, sums j h, sum-signed ready x l j hl h hi)
 
     module _ (j : ℕ) (h : j < s .columns) where
       abbrev q : ℕ
@@ -128,7 +128,7 @@ module _ {s : Shape} {image : List ℕ} {i : ℕ} (ready : Ready longestCycle s 
           rw (changed-first b j h, changed-first n j h)
           (heard-case z
           (λ e.
-          let in-cycle : z < s .cycle = heard-tick (s .cycle) z (reading (i + k) (l + j) (omega arith) (omega arith)) e in
+          let in-cycle : z < s .cycle = heard-tick (s .cycle) z (reading (i + k) (l + j)) e in
           let middle = centre-tick j h e in
           let near : ranked (s .cycle) centres own l j ≡ rank (s .cycle) (centreAt s image i j) z =
           rw (y .holds j h, x .holds (l + j) (omega (arith, sizes .mask-columns-odd)))

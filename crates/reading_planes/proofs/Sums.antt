@@ -16,7 +16,7 @@ use Rattle.cycle.specs.Silence.{isReading}
 use Rattle.cycle.proofs.SilenceLaws.{reading-case}
 use Rattle.refusal.specs.Limits.{longestCycle, mostColumns, mostMaskRows, mostMaskColumns}
 use Rattle.refusal.specs.Outcome.{Clear}
-use Rattle.shape.specs.Rules.{reach, shapeRules}
+use Rattle.shape.specs.Rules.{shapeRules}
 use Rattle.shape.specs.declared.Shape.{Shape}
 use Rattle.shape.proofs.Accepted.{Accepted, shape-clear}
 use Rattle.median.specs.Sum.{share, shares}
@@ -58,12 +58,8 @@ module _ (s : Shape) (clear : Clear (shapeRules longestCycle s)) where
   pub place-inside : (l j : ℕ) → l < s .«mask_columns» → j < s .columns → l + j < paddedLength s
   place-inside l j h g = omega (arith, sizes .mask-columns-odd)
 
-  -- a window reaches rows of the padded image alone
-  pub row-inside : (i k : ℕ) → i < s .rows → k < s .«mask_rows» → i + k < s .rows + 2 * reach (s .«mask_rows»)
-  row-inside i k h g = omega (arith, sizes .mask-rows-odd)
-
-module _ {s : Shape} {image : List ℕ} (ready : Ready longestCycle s image) {own : List ℕ} {a : ℕ}
-    (ha : a < s .rows + 2 * reach (s .«mask_rows»)) (x : Line s image a own) (l j : ℕ) (hl : l < s .«mask_columns») (hj : j < s .columns) where
+module _ {s : Shape} {image : List ℕ} (ready : Ready longestCycle s image) {own : List ℕ} {a : ℕ} (x : Line s image a own) (l j : ℕ)
+    (hl : l < s .«mask_columns») (hj : j < s .columns) where
   abbrev q : ℕ
   q = padded 0 s image a (l + j)
 
@@ -80,7 +76,7 @@ module _ {s : Shape} {image : List ℕ} (ready : Ready longestCycle s image) {ow
       ∙ sym (total-places (share (s .cycle) q) (padded 0 s image b) j (s .«mask_columns»))
 
   reads : isReading (s .cycle) q ≡ true
-  reads = padded-reading ready (omega arith) a (l + j) ha (place-inside s (ready .shape) l j hl hj)
+  reads = padded-reading ready (omega arith) a (l + j)
 
   -- a sum, or no sum, is a signed number
   pub sum-signed : {i : ℕ} → i < s .rows → readingSum s image i a l j < 2 ^ 31

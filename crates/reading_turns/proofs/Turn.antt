@@ -8,7 +8,6 @@ use native.Mathlib.Nat.{add-mul}
 use lib.ListN.{length, getD}
 use Rattle.refusal.specs.Limits.{longestCycle, mostRows, mostMaskRows}
 use Rattle.shape.specs.Need.{readingNeed}
-use Rattle.shape.specs.Rules.{reach}
 use Rattle.shape.specs.declared.Shape.{Shape}
 use Rattle.shape.proofs.Accepted.{Accepted}
 use Rattle.memory.specs.Memory.{Outside, Changed}
@@ -20,7 +19,7 @@ use Rattle.lines.proofs.Given.{given-kept}
 use Rattle.reading_lines.specs.Passes.{ofLine}
 use Rattle.reading_planes.specs.Planes.{Gain, ofRows, none, marked, Behind, Fronts, held, gained, planes}
 use Rattle.reading_planes.specs.Sums.{place, LineSums}
-use Rattle.reading_planes.proofs.Sums.{plane-within, sizes, row-inside, sum-built, sum-from-above}
+use Rattle.reading_planes.proofs.Sums.{plane-within, sizes, sum-built, sum-from-above}
 use Rattle.reading_planes.proofs.Ring.{place-room, outside-at}
 use Rattle.reading_choice.specs.Ranks.{ranked, keptSum, keptRank}
 use Rattle.reading_choice.specs.Weighed.{RowWeighed}
@@ -39,13 +38,10 @@ scratch-kept s a b c d = record {
   nearest-line = d ∙ s .nearest-line;
 }
 
--- mask row k of row i is a row of the padded image, and its position is a small number
-module _ {s : Shape} {image : List ℕ} {i k size : ℕ} (g : Given longestCycle readingNeed s image size) (hi : i < s .rows) (hk : k < s .«mask_rows») where
-  pub position-inside : i + k < s .rows + 2 * reach (s .«mask_rows»)
-  position-inside = row-inside s (g .ready .shape) i k hi hk
-
-  pub position-fits : i + k ≤ mostRows + mostMaskRows
-  position-fits = omega (arith, sizes s (g .ready .shape) .rows-fit, sizes s (g .ready .shape) .mask-rows-fit)
+-- the position of mask row k of row i is a small number
+pub position-fits : {s : Shape} {image : List ℕ} {i k size : ℕ} → Given longestCycle readingNeed s image size → i < s .rows → k < s .«mask_rows»
+    → i + k ≤ mostRows + mostMaskRows
+position-fits {s} g hi hk = omega (arith, sizes s (g .ready .shape) .rows-fit, sizes s (g .ready .shape) .mask-rows-fit)
 
 -- its line is laid, and its planes start at base
 pub record LineLaid (s : Shape) (image own centres : List ℕ) (i k base size : ℕ) : Type 0 where
@@ -99,7 +95,7 @@ module _ {s : Shape} {image own centres : List ℕ} {i k base size : ℕ} (r : L
     turn-built f e =
         turn-first
         (sweeping-first (marked own) (omega (arith, laid-sizes .mask-columns-odd))
-        (λ m j h g. sum-built (r .given .ready) (position-inside (r .given) (r .row) (r .mask-row)) (r .line) m j h g (r .row)) f cleared) e
+        (λ m j h g. sum-built (r .given .ready) (r .line) m j h g (r .row)) f cleared) e
 
     -- or carried, from what the planes held in the row before
     pub turn-carried : {entering leaving before : List ℕ} → 0 < i → Line s image (i + s .«mask_rows» - 1) entering → Line s image (i - 1) leaving
@@ -109,7 +105,7 @@ module _ {s : Shape} {image own centres : List ℕ} {i k base size : ℕ} (r : L
     turn-carried {before = before} some x y sums f e =
         turn-first
         (sweeping-first (held s before base) (omega (arith, laid-sizes .mask-columns-odd))
-        (λ m j h g. sum-from-above (r .given .ready) (position-inside (r .given) (r .row) (r .mask-row)) (r .line) m j h g (held s before base) some
+        (λ m j h g. sum-from-above (r .given .ready) (r .line) m j h g (held s before base) some
         (r .row) x y (ap (λ (b : ℕ). getD before (b + m * s .columns + j) 0) (r .start) ∙ sums .holds m h j g)) f cleared) e
 
 module _ {s : Shape} {image own centres : List ℕ} {i k base : ℕ} {gain loss : Gain} {w₀ w change step least nearest : List ℕ} {l plane : ℕ} where

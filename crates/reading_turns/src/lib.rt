@@ -19,7 +19,7 @@ ghost use lib.ListN.{length};
 ghost use Rattle.refusal.specs.Limits.{longestCycle};
 ghost use Rattle.refusal.specs.Outcome.{Clear};
 ghost use Rattle.shape.specs.Need.{readingNeed};
-ghost use Rattle.shape.specs.Rules.{reach, shapeRules};
+ghost use Rattle.shape.specs.Rules.{shapeRules};
 ghost use Rattle.memory.specs.Memory.{Outside};
 ghost use Rattle.window.specs.Ready.{Ready};
 ghost use Rattle.lines.specs.Lines.{IsLine, Line, Centres};
@@ -32,7 +32,7 @@ ghost use Rattle.reading_turns.specs.Scratch.{Scratch};
 
 // The line of the row at a position of the padded image, and where its planes start.
 fn lay_line(shape: Shape, image: &[u16], position: usize, own: &mut [u16]) -> usize
-    requires { ⌜ Ready longestCycle shape (now image) × (position < shape .rows + 2 * reach (shape .«mask_rows»)) × IsLine (now own) ⌝ }
+    requires { ⌜ Ready longestCycle shape (now image) × IsLine (now own) ⌝ }
     ensures { λ r. ⌜ Line shape (now (image .entry)) position (now (own .exit)) × (r ≡ place shape position) ⌝ }
 {
     pad(shape, image, position, own);

@@ -17,7 +17,7 @@ use Rattle.refusal.specs.Outcome.{Rule, Clear}
 use Rattle.refusal.proofs.Outcome.{clear-join, clear-split}
 use Rattle.cycle.specs.Calls.{cycleRules, readingRule}
 use Rattle.cycle.specs.Silence.{isReading}
-use Rattle.shape.specs.Rules.{sizeRules, maskRules, reflectionRules, shapeRules, area, bufferRule}
+use Rattle.shape.specs.Rules.{sizeRules, maskRules, shapeRules, area, bufferRule}
 use Rattle.record_format.specs.Layout.{bodyOf, cycleFieldAt, sizeFieldAt, maskFieldAt, numbersLength, fieldLength}
 use Rattle.record_format.specs.Fields.{cycleTag, sizeTag, maskTag, rowTag, endTag}
 use Rattle.record_format.specs.Reading.{cycleIn, rowsIn, columnsIn, maskDue, shapeIn, rowAt, endAt, rowIn, imageIn, placedAfter, fieldRules}
@@ -92,19 +92,17 @@ module _ (bytes : List ℕ) (room : ℕ) where
       let mask = clear-split (fieldRules bytes maskFieldAt maskTag (maskDue bytes)) (maskValueRules (shapeIn bytes) room) (three .0) in
       let s = shapeIn bytes in
       let sides = maskRules (s .«mask_rows») (s .«mask_columns») in
-      let reflection = reflectionRules (s .rows) (s .columns) (s .«mask_rows») (s .«mask_columns») in
       let buffer : List Rule = bufferRule (area s) room ∷ [] in
       let trailing : List Rule = trailingRule bytes (bodyOf (endAt bytes)) ∷ [] in
-      let values = clear-split sides (reflection ++ buffer) (mask .1) in
-      let reach = clear-split reflection buffer (values .1) in
+      let values = clear-split sides buffer (mask .1) in
       let end = clear-split (fieldRules bytes (endAt bytes) endTag 0) trailing (four .1) in
       record {
         cycle = field-clear bytes cycleFieldAt cycleTag (numbersLength 1) (cycle .0);
         size = field-clear bytes sizeFieldAt sizeTag (numbersLength 2) (size .0);
         mask = field-clear bytes maskFieldAt maskTag (maskDue bytes) (mask .0);
-        shape = clear-join (cycleRules longestCycle (s .cycle)) (sizeRules (s .rows) (s .columns) ++ (sides ++ reflection)) (cycle .1)
-            (clear-join (sizeRules (s .rows) (s .columns)) (sides ++ reflection) (size .1) (clear-join sides reflection (values .0) (reach .0)));
-        buffer = ltb-false room (area s) (reach .1 .0);
+        shape = clear-join (cycleRules longestCycle (s .cycle)) (sizeRules (s .rows) (s .columns) ++ sides) (cycle .1)
+            (clear-join (sizeRules (s .rows) (s .columns)) sides (size .1) (values .0));
+        buffer = ltb-false room (area s) (values .1 .0);
         rows = λ i h. row-clear bytes i (each-in-joined (rowFieldRules bytes) Quiet 0 (rowsIn bytes) (four .0) i (omega arith) (omega arith));
         end = field-clear bytes (endAt bytes) endTag 0 (end .0);
         last = ltb-false (bodyOf (endAt bytes)) (length bytes) (end .1 .0);
@@ -115,10 +113,8 @@ module _ (bytes : List ℕ) (room : ℕ) where
   clear-readable r =
       let s = shapeIn bytes in
       let sides = maskRules (s .«mask_rows») (s .«mask_columns») in
-      let reflection = reflectionRules (s .rows) (s .columns) (s .«mask_rows») (s .«mask_columns») in
-      let one = clear-split (cycleRules longestCycle (s .cycle)) (sizeRules (s .rows) (s .columns) ++ (sides ++ reflection)) (r .shape) in
-      let two = clear-split (sizeRules (s .rows) (s .columns)) (sides ++ reflection) (one .1) in
-      let three = clear-split sides reflection (two .1) in
+      let one = clear-split (cycleRules longestCycle (s .cycle)) (sizeRules (s .rows) (s .columns) ++ sides) (r .shape) in
+      let two = clear-split (sizeRules (s .rows) (s .columns)) sides (one .1) in
       let buffer : List Rule = bufferRule (area s) room ∷ [] in
       let trailing : List Rule = trailingRule bytes (bodyOf (endAt bytes)) ∷ [] in
       let rows = each-of-joined (rowFieldRules bytes) Quiet 0 (rowsIn bytes) (λ k h g. clear-row bytes k (r .rows k (omega arith))) in
@@ -131,7 +127,7 @@ module _ (bytes : List ℕ) (room : ℕ) where
       (clear-join (maskFieldRules bytes room) (bodyRules bytes)
       (clear-join (fieldRules bytes maskFieldAt maskTag (maskDue bytes)) (maskValueRules s room)
       (clear-field bytes maskFieldAt maskTag (maskDue bytes) (r .mask))
-      (clear-join sides (reflection ++ buffer) (three .0) (clear-join reflection buffer (three .1) (le-ltb room (area s) (r .buffer), tt))))
+      (clear-join sides buffer (two .1) (le-ltb room (area s) (r .buffer), tt)))
       (clear-join (joined (rowFieldRules bytes) 0 (rowsIn bytes)) (endFieldRules bytes) rows
       (clear-join (fieldRules bytes (endAt bytes) endTag 0) trailing (clear-field bytes (endAt bytes) endTag 0 (r .end))
       (le-ltb (bodyOf (endAt bytes)) (length bytes) (r .last), tt)))))

@@ -21,7 +21,7 @@ use Rattle.refusal.specs.Outcome.Outcome.{accepted, refused}
 use Rattle.refusal.proofs.Outcome.{clear-split, clear-accepted, due-refused}
 use Rattle.cycle.specs.Silence.{isReading}
 use Rattle.shape.specs.declared.Shape.{Shape}
-use Rattle.shape.specs.Rules.{shapeRules, maskRules, reflectionRules, bufferRule, area, rowOf}
+use Rattle.shape.specs.Rules.{shapeRules, maskRules, bufferRule, area, rowOf}
 use Rattle.record_format.specs.Layout.{bodyOf, cycleFieldAt, cycleAt, sizeFieldAt, rowsAt, columnsAt, maskFieldAt, maskRowsAt, maskColumnsAt}
 use Rattle.record_format.specs.Layout.{rowFieldsAt, numbersLength, fieldLength}
 use Rattle.record_format.specs.Fields.{cycleTag, sizeTag, maskTag, rowTag, endTag, number, numbers, field, numberAt, numbersAt}
@@ -176,8 +176,7 @@ module _ (s : Shape) (readings : List ℕ) (input : length readings ≡ area s) 
         cycleFieldRules bytes
         ++ (sizeFieldRules bytes
         ++ (fieldRules bytes maskFieldAt maskTag (maskDue bytes)
-        ++ (maskRules (t .«mask_rows») (t .«mask_columns»)
-        ++ reflectionRules (t .rows) (t .columns) (t .«mask_rows») (t .«mask_columns»)))) in
+        ++ maskRules (t .«mask_rows») (t .«mask_columns»))) in
         let enough = clear-readable bytes (area s) (written-readable (area s) (omega arith)) in
         let clear = clear-split before (bufferRule (area t) (area s) ∷ bodyRules bytes) enough .0 in
         due-refused t

@@ -11,7 +11,7 @@ use Rattle.refusal.specs.Limits.{longestCycle}
 use Rattle.refusal.specs.Outcome.{Outcome, Rule, rule, firstDue}
 use Rattle.cycle.specs.Calls.{cycleRules, readingRule}
 use Rattle.shape.specs.declared.Shape.{Shape}
-use Rattle.shape.specs.Rules.{sizeRules, maskRules, reflectionRules, area, bufferRule}
+use Rattle.shape.specs.Rules.{sizeRules, maskRules, area, bufferRule}
 use Rattle.record_format.specs.Layout.{headLength, numbersLength, lengthOf, bodyOf, fieldLength}
 use Rattle.record_format.specs.Layout.{cycleFieldAt, cycleAt, sizeFieldAt, rowsAt, columnsAt, maskFieldAt, maskRowsAt, maskColumnsAt}
 use Rattle.record_format.specs.Fields.{cycleTag, sizeTag, maskTag, rowTag, endTag, numberAt, numbersAt}
@@ -92,12 +92,9 @@ cycleFieldRules bytes = fieldRules bytes cycleFieldAt cycleTag (numbersLength 1)
 abbrev pub sizeFieldRules : List ℕ → List Rule
 sizeFieldRules bytes = fieldRules bytes sizeFieldAt sizeTag (numbersLength 2) ++ sizeRules (rowsIn bytes) (columnsIn bytes)
 
--- "mask (3, then 4), and after the mask the readings buffer (7)"
+-- "mask (3, ..), and after the mask the readings buffer (7)"; 4, which document 01 has between them, is never given (document 02, T-02)
 abbrev pub maskValueRules : Shape → ℕ → List Rule
-maskValueRules s room =
-    maskRules (s .«mask_rows») (s .«mask_columns»)
-    ++ (reflectionRules (s .rows) (s .columns) (s .«mask_rows») (s .«mask_columns»)
-    ++ (bufferRule (area s) room ∷ []))
+maskValueRules s room = maskRules (s .«mask_rows») (s .«mask_columns») ++ (bufferRule (area s) room ∷ [])
 
 abbrev pub maskFieldRules : List ℕ → ℕ → List Rule
 maskFieldRules bytes room = fieldRules bytes maskFieldAt maskTag (maskDue bytes) ++ maskValueRules (shapeIn bytes) room

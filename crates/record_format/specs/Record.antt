@@ -28,7 +28,7 @@ recordBytes s readings =
 unfoldable pub recordLength : Shape → ℕ
 recordLength s = rowFieldsAt + s .rows * fieldLength (s .columns) + headLength
 
--- 1 to 4, then 6, 7 and 9
+-- 1 to 3, then 6, 7 and 9
 abbrev pub callRules : Shape → List ℕ → ℕ → List Rule
 callRules s readings room = inputRule (area s) (length readings) ∷ bufferRule (recordLength s) room ∷ readingRule (s .cycle) readings ∷ []
 

@@ -25,7 +25,6 @@ use shape::Shape;
 use shape::area_of;
 use shape::buffer_verdict;
 use shape::mask_verdict;
-use shape::reflection_verdict;
 use shape::size_verdict;
 ghost use mathlib.Core.Path.{_≡_};
 ghost use mathlib.Core.List.{_++_};
@@ -155,14 +154,8 @@ fn mask_values_verdict(shape: Shape, room: usize) -> Verdict
     ensures { λ r. ⌜ verdict r ≡ firstDue (maskValueRules shape room) tt ⌝ }
 {
     let sides = mask_verdict(shape.mask_rows, shape.mask_columns);
-    let reach = reflection_verdict(
-        shape.rows,
-        shape.columns,
-        shape.mask_rows,
-        shape.mask_columns,
-    );
     let buffer = buffer_verdict(area_of(shape), room);
-    first_of(sides, first_of(reach, buffer))
+    first_of(sides, buffer)
 }
 
 // The first three fields; the shape that they hold is read once their lengths are known to be good.

@@ -55,7 +55,7 @@ fn call_verdict(shape: Shape, readings: &[u16], room: usize) -> Verdict
     }
 }
 
-// Tests 1 to 4, and then those.
+// Tests 1 to 3, and then those.
 pub fn write_verdict(shape: Shape, readings: &[u16], room: usize) -> Verdict
     ensures { λ r. ⌜ verdict r ≡ firstDue (writeRules shape (now (readings .entry)) room) tt ⌝ }
 {

@@ -1,13 +1,12 @@
--- Document 01, "Refused calls": the number and the place of each refusal.
+-- Document 01, "Refused calls": the number and the place of each refusal. 4 is never given any more (document 02, T-02).
 use Prim.Native.Nat.{ℕ}
 use Rattle.refusal.specs.declared.Refusal.{Refusal}
-use Rattle.refusal.specs.declared.Refusal.the-variants.{Cycle, Size, Mask, Reflection, Rows, Input, Buffer, Work, Reading, Cut, Tag, Length, Trailing, Record}
+use Rattle.refusal.specs.declared.Refusal.the-variants.{Cycle, Size, Mask, Rows, Input, Buffer, Work, Reading, Cut, Tag, Length, Trailing, Record}
 
 abbrev pub numberOf : Refusal → ℕ
 numberOf Cycle = 1
 numberOf Size = 2
 numberOf Mask = 3
-numberOf Reflection = 4
 numberOf Rows = 5
 numberOf Input = 6
 numberOf Buffer = 7
@@ -24,7 +23,6 @@ abbrev pub placeOf : Refusal → ℕ
 placeOf Cycle = 0
 placeOf Size = 0
 placeOf Mask = 0
-placeOf Reflection = 0
 placeOf Rows = 0
 placeOf Input = 0
 placeOf Buffer = 0

@@ -1,5 +1,6 @@
-// The refusals of document 01, "Refused calls": one case for each number of its table, with the
-// place where the table gives one. A call answers with its result or with one of these.
+// The refusals of document 01, "Refused calls": one case for each number of its table that is given, with
+// the place where the table gives one. A call answers with its result or with one of these. 4 is reserved:
+// since T-02 of document 02 it is never given.
 pub mod limits;
 
 ghost use mathlib.Core.Path.{_≡_};
@@ -13,8 +14,6 @@ pub enum Refusal {
     Size,
     // 3: a mask side that is even, 0 or too long.
     Mask,
-    // 4: the mask reaches past one reflection of the image.
-    Reflection,
     // 5: the first row is past the end row, or the end row past the image.
     Rows,
     // 6: the input has not as many readings as the image.
@@ -74,7 +73,6 @@ pub fn number(r: Refusal) -> u32
         Refusal::Cycle => 1,
         Refusal::Size => 2,
         Refusal::Mask => 3,
-        Refusal::Reflection => 4,
         Refusal::Rows => 5,
         Refusal::Input => 6,
         Refusal::Buffer => 7,
@@ -96,7 +94,6 @@ pub fn place(r: Refusal) -> usize
         Refusal::Cycle => 0,
         Refusal::Size => 0,
         Refusal::Mask => 0,
-        Refusal::Reflection => 0,
         Refusal::Rows => 0,
         Refusal::Input => 0,
         Refusal::Buffer => 0,

@@ -1,14 +1,17 @@
--- What it says of a shape that its tests are clear. Assumes nothing.
+-- What it says of a shape that its tests are clear, and back. Assumes nothing.
 use Prim.Native.Nat.{ℕ, _+_, _*_, _%_, _^_, _≤_, _<_}
 use mathlib.Core.Path.{_≡_}
+use mathlib.Core.List.{_++_}
 use native.Mathlib.Omega.{arith}
 use native.Mathlib.Nat.{mul-le-mul}
-use borrow.Author.Tests.{ltb-false, eqb-false}
+use borrow.Author.Tests.{ltb-false, eqb-false, le-ltb, ne-eqb}
 use Rattle.lists.proofs.Parts.{part-end}
 use Rattle.refusal.specs.Limits.{mostRows, mostColumns, mostMaskRows, mostMaskColumns}
-use Rattle.refusal.specs.Outcome.{Clear}
+use Rattle.refusal.specs.Outcome.{Clear, rangeRules}
+use Rattle.refusal.proofs.Outcome.{clear-join}
+use Rattle.cycle.specs.Calls.{cycleRules}
 use Rattle.shape.specs.declared.Shape.{Shape}
-use Rattle.shape.specs.Rules.{reach, shapeRules, area}
+use Rattle.shape.specs.Rules.{reach, sideRules, shapeRules, area}
 
 pub record Accepted (limit : ℕ) (s : Shape) : Type 0 where
   pub cycle-some : 0 < s .cycle
@@ -21,8 +24,6 @@ pub record Accepted (limit : ℕ) (s : Shape) : Type 0 where
   pub mask-rows-fit : s .«mask_rows» ≤ mostMaskRows
   pub mask-columns-odd : s .«mask_columns» ≡ 2 * reach (s .«mask_columns») + 1
   pub mask-columns-fit : s .«mask_columns» ≤ mostMaskColumns
-  pub rows-reach : reach (s .«mask_rows») ≤ s .rows
-  pub columns-reach : reach (s .«mask_columns») ≤ s .columns
 
 pub shape-clear : (limit : ℕ) (s : Shape) → Clear (shapeRules limit s) → Accepted limit s
 shape-clear limit s k =
@@ -33,7 +34,6 @@ shape-clear limit s k =
     let mask = sizes .1 .1 .1 .1 in
     let mask-rows : (s .«mask_rows» % 2 ≡ 0 → ⊥) = eqb-false _ 0 (mask .0) in
     let mask-columns : (s .«mask_columns» % 2 ≡ 0 → ⊥) = eqb-false _ 0 (mask .1 .1 .0) in
-    let reflection = mask .1 .1 .1 .1 in
     record {
       cycle-some = omega arith;
       cycle-fits = ltb-false limit (s .cycle) (k .1 .0);
@@ -45,9 +45,25 @@ shape-clear limit s k =
       mask-rows-fit = ltb-false mostMaskRows (s .«mask_rows») (mask .1 .0);
       mask-columns-odd = omega arith;
       mask-columns-fit = ltb-false mostMaskColumns (s .«mask_columns») (mask .1 .1 .1 .0);
-      rows-reach = ltb-false (s .rows) _ (reflection .0);
-      columns-reach = ltb-false (s .columns) _ (reflection .1 .0);
     }
+
+-- Each number has its own range and no test holds one beside another: every mask is accepted with every size (document 02, T-02).
+pub clear-shape : (limit : ℕ) (s : Shape) → Accepted limit s → Clear (shapeRules limit s)
+clear-shape limit s a =
+    let rows = rangeRules 2 0 mostRows (s .rows) in
+    let columns = rangeRules 2 0 mostColumns (s .columns) in
+    let mask-rows = sideRules mostMaskRows (s .«mask_rows») in
+    let mask-columns = sideRules mostMaskColumns (s .«mask_columns») in
+    clear-join (cycleRules limit (s .cycle)) ((rows ++ columns) ++ (mask-rows ++ mask-columns)) (range 1 (a .cycle-some) (a .cycle-fits))
+    (clear-join (rows ++ columns) (mask-rows ++ mask-columns)
+    (clear-join rows columns (range 2 (a .rows-some) (a .rows-fit)) (range 2 (a .columns-some) (a .columns-fit)))
+    (clear-join mask-rows mask-columns (side (a .mask-rows-odd) (a .mask-rows-fit)) (side (a .mask-columns-odd) (a .mask-columns-fit))))
+  where
+    range : {most x : ℕ} (number : ℕ) → 0 < x → x ≤ most → Clear (rangeRules number 0 most x)
+    range {most} {x} number some fits = (ne-eqb x 0 (λ e. omega arith), (le-ltb most x fits, tt))
+
+    side : {most x : ℕ} → x ≡ 2 * reach x + 1 → x ≤ most → Clear (sideRules most x)
+    side {most} {x} odd fits = (ne-eqb (x % 2) 0 (λ e. omega arith), (le-ltb most x fits, tt))
 
 -- a product of two numbers of 32 bits fits 64
 pub product-fits : (a b : ℕ) → a < 2 ^ 32 → b < 2 ^ 32 + 1 → a * b < 2 ^ 64

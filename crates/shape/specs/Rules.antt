@@ -24,17 +24,10 @@ sideRules most side = rule (eqb (side % 2) 0) 3 0 ∷ rule (ltb most side) 3 0 �
 abbrev pub maskRules : ℕ → ℕ → List Rule
 maskRules r t = sideRules mostMaskRows r ++ sideRules mostMaskColumns t
 
--- 4: one reflection is not enough
-abbrev pub reflectionRules : ℕ → ℕ → ℕ → ℕ → List Rule
-reflectionRules m n r t = rule (ltb m (reach r)) 4 0 ∷ rule (ltb n (reach t)) 4 0 ∷ []
-
--- 1 to 4, for a call that takes cycles up to a limit
+-- 1 to 3, for a call that takes cycles up to a limit; 4, of masks that reach far, is never given any more (document 02, T-02)
 abbrev pub shapeRules : ℕ → Shape → List Rule
 shapeRules limit s =
-    cycleRules limit (s .cycle)
-    ++ (sizeRules (s .rows) (s .columns)
-    ++ (maskRules (s .«mask_rows») (s .«mask_columns»)
-    ++ reflectionRules (s .rows) (s .columns) (s .«mask_rows») (s .«mask_columns»)))
+    cycleRules limit (s .cycle) ++ (sizeRules (s .rows) (s .columns) ++ maskRules (s .«mask_rows») (s .«mask_columns»))
 
 -- the number of readings of an image
 abbrev pub area : Shape → ℕ

@@ -16,7 +16,7 @@ ghost use Prim.Native.Nat.{_≤_};
 ghost use Rattle.refusal.specs.Limits.{mostMaskRows, mostMaskColumns};
 ghost use Rattle.refusal.specs.Outcome.{firstDue, verdict};
 ghost use Rattle.shape.specs.Need.{levelNeed, readingNeed};
-ghost use Rattle.shape.specs.Rules.{sizeRules, sideRules, maskRules, reflectionRules, shapeRules, area, rowsRules, inputRule, bufferRule, workRule};
+ghost use Rattle.shape.specs.Rules.{sizeRules, sideRules, maskRules, shapeRules, area, rowsRules, inputRule, bufferRule, workRule};
 
 // The paper's C, M, N, R and T.
 pub struct Shape {
@@ -60,37 +60,15 @@ pub fn mask_verdict(mask_rows: u32, mask_columns: u32) -> Verdict
     )
 }
 
-// Test 4.
-pub fn reflection_verdict(rows: u32, columns: u32, mask_rows: u32, mask_columns: u32) -> Verdict
-    ensures { λ r. ⌜ verdict r ≡ firstDue (reflectionRules rows columns «mask_rows» «mask_columns») tt ⌝ }
-{
-    if rows < mask_rows / 2 {
-        return Verdict::Refused(Refusal::Reflection);
-    }
-    if columns < mask_columns / 2 {
-        return Verdict::Refused(Refusal::Reflection);
-    }
-    Verdict::Passed
-}
-
-// Tests 1 to 4, for a call that takes cycles up to a limit.
+// Tests 1 to 3, for a call that takes cycles up to a limit.
 pub fn shape_verdict(limit: u32, shape: Shape) -> Verdict
     ensures { λ r. ⌜ verdict r ≡ firstDue (shapeRules limit shape) tt ⌝ }
 {
-    let mask = mask_verdict(shape.mask_rows, shape.mask_columns);
-    let reflection = reflection_verdict(
-        shape.rows,
-        shape.columns,
-        shape.mask_rows,
-        shape.mask_columns,
+    let sizes = first_of(
+        size_verdict(shape.rows, shape.columns),
+        mask_verdict(shape.mask_rows, shape.mask_columns),
     );
-    first_of(
-        first_of(
-            cycle_verdict(limit, shape.cycle),
-            size_verdict(shape.rows, shape.columns),
-        ),
-        first_of(mask, reflection),
-    )
+    first_of(cycle_verdict(limit, shape.cycle), sizes)
 }
 
 // The number of readings of an image.

@@ -1,53 +1,128 @@
--- Laws of the mirror: what the engines and the window rely on, and never its text. Assumes nothing.
-use Prim.Native.Nat.{ℕ, _+_, _-_, _*_, _≤_, _<_}
-use mathlib.Core.Path.{_≡_}
+-- Laws of the mirror: what the engines and the window rely on, and never its text. They go by whole rounds of 2 n, along the axis and
+-- back. Assumes nothing.
+use Prim.Native.Nat.{ℕ, _+_, _-_, _*_, _/_, _%_, _≤_, _<_}
+use mathlib.Core.Path.{_≡_, refl, ap, sym, _∙_}
+use mathlib.Core.Bool.{cond}
 use native.Mathlib.Omega.{arith}
 use native.Mathlib.Decide.{decLt}
+use native.Mathlib.Nat.{mod-lt, mod-eq-of-lt, mul-add-mod-self-right, div-add-mod, mul-comm, mul-one, mul-add, add-mul, mul-le-mul-left, mul-le-mul-right}
+use lib.Dec.{ltb}
 use borrow.Author.Tests.{lt-ltb, le-ltb}
-use Rattle.window.specs.Mirror.{mirror}
+use Rattle.window.specs.Mirror.{folded, mirror}
 
--- the three parts of an axis
-pub mirror-low : (n h p : ℕ) → p < h → mirror n h p ≡ h - 1 - p
-unfolding mirror
-mirror-low n h p l = rw (lt-ltb p h l)
+pub folded-low : (n k : ℕ) → k < n → folded n k ≡ k
+unfolding folded
+folded-low n k h = rw (lt-ltb k n h)
 
-pub mirror-middle : (n h p : ℕ) → h ≤ p → p - h < n → mirror n h p ≡ p - h
-unfolding mirror
-mirror-middle n h p l g = rw (le-ltb p h l, lt-ltb (p - h) n g)
+pub folded-high : (n k : ℕ) → n ≤ k → folded n k ≡ 2 * n - 1 - k
+unfolding folded
+folded-high n k h = rw (le-ltb k n h)
 
-pub mirror-high : (n h p : ℕ) → h ≤ p → n ≤ p - h → mirror n h p ≡ 2 * n - 1 - (p - h)
-unfolding mirror
-mirror-high n h p l g = rw (le-ltb p h l, le-ltb (p - h) n g)
-
--- an index stands for itself
-pub mirror-inside : (n h i : ℕ) → i < n → mirror n h (i + h) ≡ i
-mirror-inside n h i l = let e = mirror-middle n h (i + h) (omega arith) (omega arith) in omega arith
-
--- every position stands for an index of the axis, if one reflection is enough
-pub mirror-below : (n h p : ℕ) → h ≤ n → p < n + 2 * h → mirror n h p < n
-mirror-below n h p g l = go (decLt p h)
+folded-below : (n k : ℕ) → k < 2 * n → folded n k < n
+folded-below n k h = go (decLt k n)
   where
-    go : Dec (p < h) → mirror n h p < n
-    go (yes a) = omega (arith, mirror-low n h p a)
-    go (no a) = on (decLt (p - h) n)
-      where
-        on : Dec (p - h < n) → mirror n h p < n
-        on (yes b) = omega (arith, mirror-middle n h p (omega arith) b)
-        on (no b) = omega (arith, mirror-high n h p (omega arith) (omega arith))
+    go : Dec (k < n) → folded n k < n
+    go (yes l) = omega (arith, folded-low n k l)
+    go (no l) = omega (arith, folded-high n k (omega arith))
 
--- One position on, from the padding before the axis to that behind it: towards the edge, the edge repeated, along the axis, the far
--- edge repeated, away from it.
-pub mirror-towards : (n h p : ℕ) → p + 1 < h → mirror n h p ≡ mirror n h (p + 1) + 1
-mirror-towards n h p l = omega (arith, mirror-low n h p (omega arith), mirror-low n h (p + 1) l)
+-- the way back is the way there
+folded-back : (n k : ℕ) → k < 2 * n → folded n (2 * n - 1 - k) ≡ folded n k
+folded-back n k h = go (decLt k n)
+  where
+    go : Dec (k < n) → folded n (2 * n - 1 - k) ≡ folded n k
+    go (yes l) = omega (arith, folded-low n k l, folded-high n (2 * n - 1 - k) (omega arith))
+    go (no l) = omega (arith, folded-high n k (omega arith), folded-low n (2 * n - 1 - k) (omega arith))
 
-pub mirror-edge : (n h p : ℕ) → 0 < n → p + 1 ≡ h → mirror n h p ≡ mirror n h (p + 1)
-mirror-edge n h p l e = omega (arith, mirror-low n h p (omega arith), mirror-middle n h (p + 1) (omega arith) (omega arith))
+-- a number as whole rounds and what is left
+by-rounds : {C : Type 0} (n k : ℕ) → 0 < n → ((q r : ℕ) → r < 2 * n → k ≡ q * (2 * n) + r → r ≡ k % (2 * n) → C) → C
+by-rounds n k l go =
+    go (k / (2 * n)) (k % (2 * n)) (mod-lt k (omega arith)) (sym (rw (mul-comm (2 * n) (k / (2 * n))) at (div-add-mod k (2 * n)))) refl
 
-pub mirror-along : (n h p : ℕ) → h ≤ p → p + 1 < h + n → mirror n h (p + 1) ≡ mirror n h p + 1
-mirror-along n h p l g = omega (arith, mirror-middle n h p l (omega arith), mirror-middle n h (p + 1) (omega arith) (omega arith))
+module _ (n h : ℕ) where
+  -- the text's number is k and some whole rounds
+  rounds : (p q k : ℕ) → k < 2 * n → p + h * (2 * n) ≡ h + (q * (2 * n) + k) → mirror n h p ≡ folded n k
+  unfolding mirror
+  rounds p q k l e =
+      let whole : 2 * n ≡ (2 * n - 1) + 1 = omega arith in
+      let text : p + h * (2 * n - 1) ≡ q * (2 * n) + k = omega (arith, e, ap (λ (x : ℕ). h * x) whole, mul-add h (2 * n - 1) 1, mul-one h) in
+      ap (folded n) (rw text (mul-add-mod-self-right q (2 * n) k ∙ mod-eq-of-lt l))
 
-pub mirror-far-edge : (n h p : ℕ) → 0 < n → p + 1 ≡ h + n → mirror n h (p + 1) ≡ mirror n h p
-mirror-far-edge n h p l e = omega (arith, mirror-middle n h p (omega arith) (omega arith), mirror-high n h (p + 1) (omega arith) (omega arith))
+  -- The paper's sentence: the index p - h, modulo 2 n, is k, from 0 up to 2 n, also for an index that is negative.
+  pub mirror-ahead : (p q k : ℕ) → k < 2 * n → p ≡ h + (q * (2 * n) + k) → mirror n h p ≡ folded n k
+  mirror-ahead p q k l e = rounds p (h + q) k l (omega (arith, e, add-mul h q (2 * n)))
 
-pub mirror-away : (n h p : ℕ) → h + n ≤ p → p + 1 < h + 2 * n → mirror n h p ≡ mirror n h (p + 1) + 1
-mirror-away n h p l g = omega (arith, mirror-high n h p (omega arith) (omega arith), mirror-high n h (p + 1) (omega arith) (omega arith))
+  pub mirror-behind : (p q k : ℕ) → k < 2 * n → p + q * (2 * n) ≡ h + k → mirror n h p ≡ folded n k
+  mirror-behind p q k l e = go (decLt h q)
+    where
+      go : Dec (h < q) → mirror n h p ≡ folded n k
+      go (yes g) = absurd (omega (arith, e, mul-le-mul-right (2 * n) g, mul-le-mul-left h some, mul-one h))
+        where
+          some : 1 ≤ 2 * n
+          some = omega arith
+      go (no g) =
+          let back : h ≡ (h - q) + q = omega arith in
+          rounds p (h - q) k l (omega (arith, e, ap (λ (x : ℕ). x * (2 * n)) back, add-mul (h - q) q (2 * n)))
+
+  -- every position stands for an index of the axis
+  pub mirror-below : (p : ℕ) → 0 < n → mirror n h p < n
+  unfolding mirror
+  mirror-below p l = folded-below n _ (mod-lt (p + h * (2 * n - 1)) (omega arith))
+
+  -- the position k behind the start of the axis
+  pub mirror-index : (k : ℕ) → 0 < n → mirror n h (h + k) ≡ folded n (k % (2 * n))
+  mirror-index k l = by-rounds n k l (λ q r a d e. rw (← e) (mirror-ahead (h + k) q r a (omega arith)))
+
+  -- an index stands for itself
+  pub mirror-inside : (i : ℕ) → i < n → mirror n h (i + h) ≡ i
+  mirror-inside i l = mirror-ahead (i + h) 0 i (omega arith) (omega arith) ∙ folded-low n i l
+
+  -- The axis is mirrored at its start, however far: k before it stands for what k behind it stands for.
+  pub mirror-start : (k : ℕ) → 0 < n → k < h → mirror n h (h - 1 - k) ≡ mirror n h (h + k)
+  mirror-start k l g = by-rounds n k l (λ q r a d e.
+      let more : (q + 1) * (2 * n) ≡ q * (2 * n) + 2 * n = add-mul q 1 (2 * n) ∙ omega arith in
+      mirror-behind (h - 1 - k) (q + 1) (2 * n - 1 - r) (omega arith) (omega arith)
+      ∙ folded-back n r a ∙ sym (mirror-ahead (h + k) q r a (omega arith)))
+
+  -- so a position stands for what its distance from the start stands for, whole rounds left out
+  pub mirror-from-start : (p : ℕ) → 0 < n → mirror n h p ≡ folded n (cond (ltb p h) (h - 1 - p) (p - h) % (2 * n))
+  mirror-from-start p l = go (decLt p h)
+    where
+      go : Dec (p < h) → mirror n h p ≡ folded n (cond (ltb p h) (h - 1 - p) (p - h) % (2 * n))
+      go (yes g) =
+          let here : p ≡ h - 1 - (h - 1 - p) = omega arith in
+          rw (lt-ltb p h g) (ap (mirror n h) here ∙ mirror-start (h - 1 - p) l (omega arith) ∙ mirror-index (h - 1 - p) l)
+      go (no g) =
+          let here : p ≡ h + (p - h) = omega arith in
+          rw (le-ltb p h (omega arith)) (ap (mirror n h) here ∙ mirror-index (p - h) l)
+
+  -- It goes round: a position two axes on stands for the same.
+  pub mirror-round : (k : ℕ) → 0 < n → mirror n h (h + (k + 2 * n)) ≡ mirror n h (h + k)
+  mirror-round k l = by-rounds n k l (λ q r a d e.
+      let more : (q + 1) * (2 * n) ≡ q * (2 * n) + 2 * n = add-mul q 1 (2 * n) ∙ omega arith in
+      mirror-ahead (h + (k + 2 * n)) (q + 1) r a (omega arith) ∙ sym (mirror-ahead (h + k) q r a (omega arith)))
+
+  -- where one reflection is enough: the three parts of the padded axis
+  pub mirror-low : (p : ℕ) → p < h → h - 1 - p < n → mirror n h p ≡ h - 1 - p
+  mirror-low p g l = mirror-behind p 1 (2 * n - 1 - (h - 1 - p)) (omega arith) (omega arith) ∙ folded-back n (h - 1 - p) (omega arith) ∙ folded-low n (h - 1 - p) l
+
+  pub mirror-middle : (p : ℕ) → h ≤ p → p - h < n → mirror n h p ≡ p - h
+  mirror-middle p g l = mirror-ahead p 0 (p - h) (omega arith) (omega arith) ∙ folded-low n (p - h) l
+
+  pub mirror-high : (p : ℕ) → h ≤ p → n ≤ p - h → p - h < 2 * n → mirror n h p ≡ 2 * n - 1 - (p - h)
+  mirror-high p g l u = mirror-ahead p 0 (p - h) u (omega arith) ∙ folded-high n (p - h) l
+
+  -- and at its end: k behind the last index stands for what k before it stands for
+  pub mirror-end : (k : ℕ) → 0 < n → k < n + h → mirror n h (h + (n + k)) ≡ mirror n h (h + n - 1 - k)
+  mirror-end k l g = go (decLt k n)
+    where
+      go : Dec (k < n) → mirror n h (h + (n + k)) ≡ mirror n h (h + n - 1 - k)
+      go (yes u) =
+          omega (
+            arith,
+            mirror-high (h + (n + k)) (omega arith) (omega arith) (omega arith),
+            mirror-middle (h + n - 1 - k) (omega arith) (omega arith),
+          )
+      go (no u) =
+          let there : h + (n + k) ≡ h + ((k - n) + 2 * n) = omega arith in
+          let back : h + n - 1 - k ≡ h - 1 - (k - n) = omega arith in
+          rw (there, back) (mirror-round (k - n) l ∙ sym (mirror-start (k - n) l (omega arith)))

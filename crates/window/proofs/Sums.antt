@@ -12,8 +12,8 @@ use Rattle.lists.specs.Joined.{joined}
 use Rattle.lists.specs.Total.{total, totalFrom}
 use Rattle.lists.specs.Difference.{difference, adjusted}
 use Rattle.lists.proofs.Members.{in-left, in-right}
-use Rattle.lists.proofs.Tabulate.{length-tabulate, each-tabulate, in-tabulate}
-use Rattle.lists.proofs.Joined.{joined-last, length-joined, each-of-joined}
+use Rattle.lists.proofs.Tabulate.{length-tabulate, each-tabulate, in-tabulate, tabulate-cong}
+use Rattle.lists.proofs.Joined.{joined-last, joined-cong, length-joined, each-of-joined}
 use Rattle.lists.proofs.Total.{total-append, total-on, total-places, total-list-more, total-list-on, total-sum, total-zeros}
 use Rattle.lists.proofs.Difference.{difference-moved, exact}
 use Rattle.window.specs.Window.{stretch, block}
@@ -41,6 +41,13 @@ module _ {A : Type 0} (y : ℕ → ℕ → A) (w : ℕ) where
           → In (y a l) (stretch y w i j ++ block y w (suc i) j k)
       go (yes e) r = in-left (y a l) (stretch y w i j) (block y w (suc i) j k) (rw e (in-tabulate (y i) j w l u v))
       go (no e) r = in-right (y a l) (stretch y w i j) (block y w (suc i) j k) (r (omega arith) (omega arith) u v)
+
+  -- blocks of the same elements are the same
+  pub block-cong : (z : ℕ → ℕ → A) (i j k : ℕ) → ((a l : ℕ) → i ≤ a → a < i + k → j ≤ l → l < j + w → y a l ≡ z a l) → block y w i j k ≡ block z w i j k
+  unfolding block
+  block-cong z i j k e =
+      joined-cong (λ a. stretch y w a j) (λ a. stretch z w a j) i k
+      (λ a p q. tabulate-cong (y a) (z a) j j w (λ l h. e a (j + l) p q (omega arith) (omega arith)))
 
   module _ (f : A → ℕ) where
     -- a block with one row more

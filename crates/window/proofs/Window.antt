@@ -42,12 +42,11 @@ module _ {limit : ℕ} {s : Shape} {image : List ℕ} (ready : Ready limit s ima
   sizes = shape-clear limit s (ready .shape)
 
   -- every position of the padded image holds a reading
-  pub padded-reading : (i j : ℕ) → i < s .rows + 2 * reach (s .«mask_rows») → j < s .columns + 2 * reach (s .«mask_columns»)
-      → isReading (s .cycle) (padded 0 s image i j) ≡ true
+  pub padded-reading : (i j : ℕ) → isReading (s .cycle) (padded 0 s image i j) ≡ true
   unfolding padded
-  padded-reading i j h g =
-      let a : mirror (s .rows) (reach (s .«mask_rows»)) i < s .rows = mirror-below _ _ _ (sizes .rows-reach) h in
-      let b : mirror (s .columns) (reach (s .«mask_columns»)) j < s .columns = mirror-below _ _ _ (sizes .columns-reach) g in
+  padded-reading i j =
+      let a : mirror (s .rows) (reach (s .«mask_rows»)) i < s .rows = mirror-below _ _ _ (sizes .rows-some) in
+      let b : mirror (s .columns) (reach (s .«mask_columns»)) j < s .columns = mirror-below _ _ _ (sizes .columns-some) in
       reading-good (s .cycle) image _ (ready .good) (omega (arith, ready .size, spot-below (s .rows) (s .columns) _ _ a b))
 
   -- no tick is silent
@@ -59,7 +58,7 @@ module _ {limit : ℕ} {s : Shape} {image : List ℕ} (ready : Ready limit s ima
     unfolding window
     window-readings =
         each-block (padded 0 s image) (s .«mask_columns») (λ z. isReading (s .cycle) z ≡ true) i j (s .«mask_rows»)
-        (λ a l p q u v. padded-reading a l (omega (arith, sizes .mask-rows-odd)) (omega (arith, sizes .mask-columns-odd)))
+        (λ a l p q u v. padded-reading a l)
 
     pub heard-below : Ticks (s .cycle) (heard (window 0 s image i j))
     heard-below = heard-ticks (s .cycle) (window 0 s image i j) window-readings

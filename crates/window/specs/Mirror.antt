@@ -1,9 +1,13 @@
--- Document 01, "The window": edges are mirrored, and the edge is repeated. One definition serves rows and columns.
-use Prim.Native.Nat.{ℕ, _-_, _*_}
+-- Document 02, T-02: edges are mirrored as often as necessary, and the edge is repeated. One definition serves rows and columns.
+use Prim.Native.Nat.{ℕ, _+_, _-_, _*_, _%_}
 use mathlib.Core.Bool.{cond}
 use lib.Dec.{ltb}
 
--- the index that a position stands for, on an axis of n that is padded by h at each end: position p is the paper's index p - h, so
--- that position h - k, index -k, stands for k - 1, and position h + n - 1 + k, index n - 1 + k, for n - k
+-- "a result k below M stands for k, another for 2M - 1 - k": along an axis of n and back
+unfoldable pub folded : ℕ → ℕ → ℕ
+folded n k = cond (ltb k n) k (2 * n - 1 - k)
+
+-- the index that a position stands for, on an axis of n that is padded by h at each end: "For an index i and an extent M, take i
+-- modulo 2M". Position p is the paper's index p - h, which modulo 2 n is p + h (2 n - 1), a number that is never negative
 unfoldable pub mirror : ℕ → ℕ → ℕ → ℕ
-mirror n h p = cond (ltb p h) (h - 1 - p) (cond (ltb (p - h) n) (p - h) (2 * n - 1 - (p - h)))
+mirror n h p = folded n ((p + h * (2 * n - 1)) % (2 * n))

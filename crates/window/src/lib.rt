@@ -1,21 +1,55 @@
 // The mirrored edges of an image in code, for the engines. Internal: `mirrored` has a `requires`, which
 // every engine meets.
 ghost use mathlib.Core.Path.{_≡_};
-ghost use Prim.Native.Nat.{_+_, _*_, _≤_, _<_};
+ghost use mathlib.Core.Bool.{cond};
+ghost use Prim.Native.Nat.{_-_, _*_, _%_, _≤_, _<_};
+ghost use lib.Dec.{ltb};
 ghost use Rattle.refusal.specs.Limits.{mostColumns};
-ghost use Rattle.window.specs.Mirror.{mirror};
+ghost use Rattle.window.specs.Mirror.{folded, mirror};
 
-// The index that a position stands for, on an axis of a given extent that is padded by reach at each end.
-pub fn mirrored(extent: usize, reach: usize, position: usize) -> usize
-    requires { ⌜ (extent ≤ mostColumns) × (reach ≤ extent) × (position < extent + 2 * reach) ⌝ }
-    ensures { λ r. ⌜ r ≡ mirror extent reach position ⌝ }
+// How far a position lies from the start of the axis, behind it or before it: the start is an edge, at
+// which both are the same.
+fn from_start(reach: usize, position: usize) -> usize
+    ensures { λ r. ⌜ r ≡ cond (ltb position reach) (reach - 1 - position) (position - reach) ⌝ }
 {
     if position < reach {
-        return reach - 1 - position;
+        reach - 1 - position
+    } else {
+        position - reach
     }
-    let index = position - reach;
-    if index < extent {
-        return index;
+}
+
+// What is left of k without whole rounds. Divides only where there is one: few positions lie so far out.
+fn without_rounds(k: usize, round: usize) -> usize
+    requires { ⌜ 0 < round ⌝ }
+    ensures { λ r. ⌜ r ≡ k % round ⌝ }
+{
+    if k < round { k } else { k % round }
+}
+
+// The index that the position k behind the start of an axis stands for: along the axis and back, and again.
+fn along_and_back(extent: usize, k: usize) -> usize
+    requires { ⌜ (0 < extent) × (extent ≤ mostColumns) ⌝ }
+    ensures { λ r. ⌜ r ≡ folded extent (k % (2 * extent)) ⌝ }
+{
+    let left = without_rounds(k, 2 * extent);
+    if left < extent {
+        left
+    } else {
+        2 * extent - 1 - left
     }
-    2 * extent - 1 - index
+}
+
+// The index that a position stands for, on an axis of a given extent that is padded by reach at each end. Most
+// positions lie on the axis or one reflection from its start.
+pub fn mirrored(extent: usize, reach: usize, position: usize) -> usize
+    requires { ⌜ (0 < extent) × (extent ≤ mostColumns) ⌝ }
+    ensures { λ r. ⌜ r ≡ mirror extent reach position ⌝ }
+{
+    let k = from_start(reach, position);
+    if k < extent {
+        k
+    } else {
+        along_and_back(extent, k)
+    }
 }

@@ -29,8 +29,7 @@ fn test_sizes(rows: u32, columns: u32) -> Answer<()> {
 
 fn test_mask(shape: Shape) -> Answer<()> {
     let bad = |side: u32| side % 2 == 0 || side > 255;
-    refuse_if(bad(shape.mask_rows) || bad(shape.mask_columns), 3)?;
-    refuse_if(shape.mask_rows / 2 > shape.rows || shape.mask_columns / 2 > shape.columns, 4)
+    refuse_if(bad(shape.mask_rows) || bad(shape.mask_columns), 3)
 }
 
 fn test_shape(shape: Shape, limit: u32) -> Answer<()> {
@@ -98,15 +97,13 @@ pub fn drift(cycle: u32, row: &[u16]) -> Answer<i32> {
 
 // The filter.
 
-/// The index that stands for `index` on an axis of `size`, mirrored at the edges.
-fn mirrored(index: i64, size: i64) -> i64 {
-    if index < 0 {
-        -index - 1
-    } else if index >= size {
-        2 * size - 1 - index
-    } else {
-        index
+/// What `index` stands for on an axis of `size`, which is mirrored at its edges as often as necessary: one reflection
+/// after the other.
+fn mirrored(mut index: i64, size: i64) -> i64 {
+    while !(0..size).contains(&index) {
+        index = if index < 0 { -index - 1 } else { 2 * size - 1 - index };
     }
+    index
 }
 
 /// The readings of a window, row by row.

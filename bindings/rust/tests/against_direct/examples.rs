@@ -67,6 +67,18 @@ fn row_and_edges() {
     assert_eq!(filtered(Level, shape(4096, 1, 1, 1, 1), &[4095]), Ok(vec![4095]));
 }
 
+/// Masks longer than the image, which is mirrored as often as necessary.
+#[test]
+fn runs_shorter_than_the_mask() {
+    for engine in [Level, Reading] {
+        assert_eq!(filtered(engine, shape(8, 1, 1, 5, 1), &[3]), Ok(vec![3]));
+        assert_eq!(filtered(engine, shape(8, 1, 4, 1, 31), &[1, 4, 1, 7]), Ok(vec![1; 4]));
+        assert_eq!(filtered(engine, shape(9, 1, 4, 1, 31), &[0, 3, 6, 1]), Ok(vec![1, 0, 1, 0]));
+        assert_eq!(filtered(engine, shape(9, 4, 1, 31, 1), &[0, 3, 6, 1]), Ok(vec![1, 0, 1, 0]));
+        assert_eq!(filtered(engine, shape(8, 1, 1, 255, 255), &[6]), Ok(vec![6]));
+    }
+}
+
 /// Silent readings: no centre, none heard, an even number heard, and the example of 16 ticks.
 #[test]
 fn silent_windows() {
@@ -120,7 +132,6 @@ fn refused_filters() {
     assert_eq!(call(Shape { rows: 0, ..row }, 0..1, &image, 5, 48), (2, 0));
     assert_eq!(call(Shape { mask_columns: 4, ..row }, 0..1, &image, 5, 48), (3, 0));
     assert_eq!(call(Shape { mask_columns: 257, ..row }, 0..1, &image, 5, 48), (3, 0));
-    assert_eq!(call(Shape { mask_rows: 5, ..row }, 0..1, &image, 5, 48), (4, 0));
     assert_eq!(call(shape(8, 2, 5, 1, 3), 1..3, &image, 5, 48), (5, 0));
     assert_eq!(call(row, 0..1, &image[..4], 5, 48), (6, 0));
     assert_eq!(call(row, 0..1, &image, 4, 48), (7, 0));
@@ -144,7 +155,7 @@ fn refused_records() {
 /// What a refusal says: its number, its place if it has one, and why.
 #[test]
 fn refusals_in_words() {
-    for number in 1..=13 {
+    for number in (1..=13).filter(|&number| number != 4) {
         let words = Refusal { number, place: 4 }.to_string();
         let start = if number < 9 { format!("refused {number}: ") } else { format!("refused {number} at 4: ") };
         assert!(words.starts_with(&start) && words.len() > start.len() + 10, "{words}");

@@ -8,12 +8,12 @@ use crate::images::{readings, shape, spoil};
 use crate::random::Random;
 use crate::tally::Tally;
 
-/// Compares one call, now and then with up to two of its nine tests broken.
+/// Compares one call, now and then with up to two of its tests broken.
 fn compare_random(random: &mut Random, tally: &mut Tally, engine: Engine) {
     let mut call = Call::good(random, engine, 6, 12);
     let cycle = call.shape.cycle;
     let broken = if random.once_in(2) { 0 } else { random.within(1..=2) };
-    let broken: Vec<u32> = (0..broken).map(|_| random.within(1..=9)).collect();
+    let broken: Vec<u32> = (0..broken).map(|_| random.one_of(&[1, 2, 3, 5, 6, 7, 8, 9])).collect();
     for &number in broken.iter().filter(|&&number| number != 9) {
         call.break_test(random, number);
     }
@@ -30,7 +30,7 @@ fn level_engine_on_random_calls() {
     let mut random = Random::seeded(10);
     let mut tally = Tally::of("level");
     (0..40_000).for_each(|_| compare_random(&mut random, &mut tally, Level));
-    tally.must_have(&[0, 1, 2, 3, 4, 5, 6, 7, 8, 9], 1_000);
+    tally.must_have(&[0, 1, 2, 3, 5, 6, 7, 8, 9], 1_000);
 }
 
 #[test]
@@ -38,7 +38,7 @@ fn reading_engine_on_random_calls() {
     let mut random = Random::seeded(11);
     let mut tally = Tally::of("reading");
     (0..40_000).for_each(|_| compare_random(&mut random, &mut tally, Reading));
-    tally.must_have(&[0, 1, 2, 3, 4, 5, 6, 7, 8, 9], 1_000);
+    tally.must_have(&[0, 1, 2, 3, 5, 6, 7, 8, 9], 1_000);
 }
 
 /// Compares a call of all rows on a random image.
@@ -48,14 +48,14 @@ fn compare_whole(random: &mut Random, tally: &mut Tally, call: &Call) {
     tally.count(&call.compare(&memory));
 }
 
-/// Every mask up to one row and column too far, on every small image.
+/// Every mask, even ones too, up to more than three times the image, on every small image.
 #[test]
 fn every_small_mask() {
     let mut random = Random::seeded(12);
     let mut tally = Tally::of("small masks");
     for (rows, columns) in (1..=4).flat_map(|rows| (1..=5).map(move |columns| (rows, columns))) {
-        for mask_rows in 0..=2 * rows + 3 {
-            for mask_columns in 0..=2 * columns + 3 {
+        for mask_rows in 0..=6 * rows + 3 {
+            for mask_columns in 0..=6 * columns + 3 {
                 let cycle = random.within(1..=20);
                 let shape = Shape { cycle, rows, columns, mask_rows, mask_columns };
                 compare_whole(&mut random, &mut tally, &Call::whole(Level, shape));
@@ -63,7 +63,7 @@ fn every_small_mask() {
             }
         }
     }
-    tally.must_have(&[0, 3, 4], 300);
+    tally.must_have(&[0, 3], 3_000);
 }
 
 /// Cycles on which the distance formula, taken for a silent reading, would not give 0.
@@ -95,12 +95,15 @@ fn sizes_at_their_limits() {
             (5, 127, 2, 255, 3),
             (9, 2, 127, 3, 255),
             (8, 1, 300, 3, 255),
+            (8, 1, 1, 255, 255),
+            (7, 1, 4, 1, 255),
+            (7, 4, 1, 255, 1),
         ] {
             let shape = Shape { cycle, rows, columns, mask_rows, mask_columns };
             compare_whole(&mut random, &mut tally, &Call::whole(engine, shape));
         }
     }
-    tally.must_have(&[0], 16);
+    tally.must_have(&[0], 22);
 }
 
 /// The largest mask on the longest cycle. Few readings are half a cycle off the others, so that their sums come close

@@ -61,10 +61,10 @@ impl Call {
         call
     }
 
-    /// Breaks one of the first eight tests, by its number.
+    /// Breaks one of the tests 1 to 8, by its number; there is no 4.
     pub fn break_test(&mut self, random: &mut Random, number: u32) {
         match number {
-            1..=4 => break_shape(random, &mut self.shape, number, limit(self.engine)),
+            1..=3 => break_shape(random, &mut self.shape, number, limit(self.engine)),
             5 => {
                 let past = self.shape.rows.saturating_add(1);
                 let ranges = [(1, 0), (past, past), (0, past), (past, 0), (u32::MAX, u32::MAX)];

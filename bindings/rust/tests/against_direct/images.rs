@@ -49,9 +49,14 @@ pub fn spoil(random: &mut Random, cycle: u32, readings: &mut [u16]) {
     }
 }
 
-/// A mask side for an axis of this size: odd, and no further than one reflection.
+/// A mask side for an axis of this size: odd, most often short, now and then as far as one reflection or several times
+/// the axis.
 pub fn side(random: &mut Random, size: u32) -> u32 {
-    let reach = if random.once_in(8) { size } else { size.min(3) };
+    let reach = match random.within(0..=15) {
+        0 | 1 => size,
+        2 => 5 * size,
+        _ => size.min(3),
+    };
     2 * random.within(0..=reach) + 1
 }
 
@@ -61,17 +66,15 @@ pub fn shape(random: &mut Random, cycle: u32, rows: u32, columns: u32) -> Shape 
     Shape { cycle, rows, columns, mask_rows: side(random, rows), mask_columns: side(random, columns) }
 }
 
-/// Breaks one of the first four tests, by its number; `limit` is the longest cycle.
+/// Breaks one of the first three tests, by its number; `limit` is the longest cycle.
 pub fn break_shape(random: &mut Random, shape: &mut Shape, number: u32, limit: u32) {
     let first = random.once_in(2);
     match (number, first) {
         (1, _) => shape.cycle = random.one_of(&[0, limit + 1, limit + 2, 65_536, 65_536 + 8, u32::MAX]),
         (2, true) => shape.rows = random.one_of(&[0, 1025, 65_537, u32::MAX]),
         (2, false) => shape.columns = random.one_of(&[0, 8193, 65_537, u32::MAX]),
-        (3, true) => shape.mask_rows = random.one_of(&[0, 2, 4, 256, 257, u32::MAX]),
-        (3, false) => shape.mask_columns = random.one_of(&[0, 2, 4, 256, 257, u32::MAX]),
-        (_, true) => shape.mask_rows = 2 * shape.rows.min(126) + 3,
-        (_, false) => shape.mask_columns = 2 * shape.columns.min(126) + 3,
+        (_, true) => shape.mask_rows = random.one_of(&[0, 2, 4, 256, 257, u32::MAX]),
+        (_, false) => shape.mask_columns = random.one_of(&[0, 2, 4, 256, 257, u32::MAX]),
     }
 }
 

@@ -38,7 +38,7 @@ fn compare_random(random: &mut Random, tally: &mut Tally, engine: Engine, thread
     let mut call = Call::good(random, engine, 20, 4);
     let cycle = call.shape.cycle;
     let broken = if random.once_in(2) { 0 } else { random.within(1..=2) };
-    let broken: Vec<u32> = (0..broken).map(|_| random.one_of(&[1, 2, 3, 4, 5, 6, 7, 9])).collect();
+    let broken: Vec<u32> = (0..broken).map(|_| random.one_of(&[1, 2, 3, 5, 6, 7, 9])).collect();
     for &number in broken.iter().filter(|&&number| number != 9) {
         call.break_test(random, number);
     }
@@ -57,17 +57,17 @@ fn random_calls() {
     for at in 0..3_000 {
         compare_random(&mut random, &mut tally, [Level, Reading][at % 2], 1 + at / 2 % 5);
     }
-    tally.must_have(&[0, 1, 2, 3, 4, 5, 6, 7, 9], 60);
+    tally.must_have(&[0, 1, 2, 3, 5, 6, 7, 9], 60);
 }
 
-/// Every range of a few rows, with masks that reach from no row to all of them.
+/// Every range of a few rows, with masks that reach from no row to more than twice all of them: r above M among them.
 #[test]
 fn every_range_and_reach() {
     let mut random = Random::seeded(21);
     let mut tally = Tally::of("parallel ranges");
     for rows in 1..=6 {
         for (first, end) in (0..=rows).flat_map(|first| (first..=rows).map(move |end| (first, end))) {
-            for reach in 0..=rows {
+            for reach in 0..=2 * rows + 1 {
                 let shape = Shape { cycle: 16, rows, columns: 2, mask_rows: 2 * reach + 1, mask_columns: 3 };
                 let engine = random.one_of(&[Level, Reading]);
                 let call = Call { rows: first..end, ..Call::whole(engine, shape) };
@@ -77,7 +77,7 @@ fn every_range_and_reach() {
             }
         }
     }
-    tally.must_have(&[0], 1_000);
+    tally.must_have(&[0], 3_000);
 }
 
 /// More threads than rows or than any machine has.

@@ -79,7 +79,7 @@ fn random_writes() {
         let mut length = (shape.rows * shape.columns) as usize;
         let mut room = at_least(&mut random, record_len(shape));
         let broken = if random.once_in(3) { 0 } else { random.within(1..=2) };
-        let broken: Vec<u32> = (0..broken).map(|_| random.one_of(&[1, 2, 3, 4, 6, 7, 9])).collect();
+        let broken: Vec<u32> = (0..broken).map(|_| random.one_of(&[1, 2, 3, 6, 7, 9])).collect();
         for &number in &broken {
             match number {
                 6 => length = other_length(&mut random, length),
@@ -95,7 +95,7 @@ fn random_writes() {
         let (image, bytes) = (Lent::holding(&mut random, &image), Lent::garbage(&mut random, room));
         compare_write(&mut tally, shape, &image, &bytes);
     }
-    tally.must_have(&[0, 1, 2, 3, 4, 6, 7, 9], 500);
+    tally.must_have(&[0, 1, 2, 3, 6, 7, 9], 500);
 }
 
 /// The bytes of a good record, with field 03 full or empty.
@@ -158,7 +158,7 @@ fn random_reads() {
         let (bytes, into) = (Lent::holding(&mut random, &bytes), Lent::garbage(&mut random, room));
         let _ = compare_read(&mut tally, &bytes, &into);
     }
-    tally.must_have(&[0, 1, 2, 3, 4, 7, 9, 10, 11, 12, 13], 300);
+    tally.must_have(&[0, 1, 2, 3, 7, 9, 10, 11, 12, 13], 300);
 }
 
 /// Each cut of a record, and each change of one of its bytes.
@@ -180,7 +180,7 @@ fn every_cut_and_every_changed_byte() {
             let _ = compare_read(&mut tally, &changed, &into);
         }
     }
-    tally.must_have(&[0, 1, 2, 3, 4, 7, 9, 10, 11, 12], 1);
+    tally.must_have(&[0, 1, 2, 3, 7, 9, 10, 11, 12], 1);
 }
 
 /// A record is written, read back and written again.

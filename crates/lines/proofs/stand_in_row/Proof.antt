@@ -39,7 +39,7 @@ add-pad : tie.Need-add-pad Inv-loop μ-loop
 add-pad c = let s = begun c in omega (arith, sizes s .rows-fit, sizes s .mask-rows-fit, s .pre .0 .1, s .pre .0 .2)
 
 pad-requires : tie.Need-pad-requires Inv-loop μ-loop
-pad-requires c κs = let s = begun (c .before) in (s .pre .0 .0, omega (arith, sizes s .mask-rows-odd, s .pre .0 .1, s .pre .0 .2), s .pre .1 .1)
+pad-requires c κs = let s = begun (c .before) in (s .pre .0 .0, s .pre .1 .1)
 
 loop-holds : tie.Need-loop-holds Inv-loop μ-loop
 loop-holds c = (omega arith, start (c .before .before) .pre .1 .0)

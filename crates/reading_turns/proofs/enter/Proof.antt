@@ -7,7 +7,7 @@ use borrow.Author.Needs.{needs}
 use Rattle.lines.specs.Lines.{IsLine}
 use Rattle.reading_planes.specs.Planes.{ofRows, none}
 use Rattle.reading_planes.proofs.Sums.{line-room}
-use Rattle.reading_turns.proofs.Turn.{scratch-kept, position-inside, position-fits, lay, laid-sizes, laid-room}
+use Rattle.reading_turns.proofs.Turn.{scratch-kept, position-fits, lay, laid-sizes, laid-room}
 use Rattle.reading_turns.proofs.Turn.{Turn, turn-built, weigh-asked, turn-weighed, next-room, turn-next, turn-last}
 use Rattle.reading_turns.proofs.enter.Statement.{statement}
 use Rattle.reading_turns.proofs.enter.Tie as tie
@@ -62,9 +62,7 @@ add-lay-line : tie.Need-add-lay-line Inv-loop μ-loop
 add-lay-line c = let s = start c in omega (arith, position-fits (s .pre .0 .0) (s .pre .0 .1) (s .pre .0 .2))
 
 lay-line-requires : tie.Need-lay-line-requires Inv-loop μ-loop
-lay-line-requires c κs =
-    let s = start (c .before) in
-    (s .pre .0 .0 .ready, position-inside (s .pre .0 .0) (s .pre .0 .1) (s .pre .0 .2), s .pre .1 .0 .0)
+lay-line-requires c κs = let s = start (c .before) in (s .pre .0 .0 .ready, s .pre .1 .0 .0)
 
 build-ahead-requires : tie.Need-build-ahead-requires Inv-loop μ-loop
 build-ahead-requires c κs =

@@ -16,5 +16,5 @@ lay-line-spec =
     (tie.spec
     (λ c κs. start c .pre)
     (λ c κs. start (padded c .before) .pre .0 .shape)
-    (λ c. let p = padded (c .before) in p .pad .ensures .len ∙ sym (start (p .before) .pre .2))
+    (λ c. let p = padded (c .before) in p .pad .ensures .len ∙ sym (start (p .before) .pre .1))
     (λ c. (padded (c .before) .pad .ensures, c .place-of .ensures)))

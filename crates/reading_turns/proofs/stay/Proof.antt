@@ -12,7 +12,7 @@ use Rattle.reading_lines.specs.Passes.{ofLine}
 use Rattle.reading_planes.proofs.Sums.{line-room}
 use Rattle.reading_sums.specs.CarryLines.{Plain, CarryLines}
 use Rattle.reading_turns.specs.Scratch.{Scratch}
-use Rattle.reading_turns.proofs.Turn.{scratch-kept, position-inside, position-fits, lay, laid-sizes, laid-room}
+use Rattle.reading_turns.proofs.Turn.{scratch-kept, position-fits, lay, laid-sizes, laid-room}
 use Rattle.reading_turns.proofs.Turn.{Turn, turn-carried, weigh-asked, turn-weighed, next-room, turn-next, turn-last}
 use Rattle.reading_turns.proofs.stay.Statement.{statement}
 use Rattle.reading_turns.proofs.stay.Tie as tie
@@ -73,9 +73,7 @@ add-lay-line : tie.Need-add-lay-line Inv-loop μ-loop
 add-lay-line c = let s = start c in omega (arith, position-fits (s .pre .0 .0) (s .pre .0 .2) (s .pre .0 .3))
 
 lay-line-requires : tie.Need-lay-line-requires Inv-loop μ-loop
-lay-line-requires c κs =
-    let s = start (c .before) in
-    (s .pre .0 .0 .ready, position-inside (s .pre .0 .0) (s .pre .0 .2) (s .pre .0 .3), s .pre .1 .0 .0)
+lay-line-requires c κs = let s = start (c .before) in (s .pre .0 .0 .ready, s .pre .1 .0 .0)
 
 is-plain-requires : tie.Need-is-plain-requires Inv-loop μ-loop
 is-plain-requires c κs =

@@ -7,7 +7,7 @@ use Rattle.lists.specs.Difference.{difference}
 use Rattle.memory.specs.Memory.{Changed}
 use Rattle.memory.proofs.Memory.{changed-none, changed-is}
 use Rattle.level_sums.specs.Sums.{blockSum}
-use Rattle.level_sums.proofs.Room.{accepted, columns-room, position}
+use Rattle.level_sums.proofs.Room.{accepted, columns-room}
 use Rattle.level_sums.proofs.Running.{run-added}
 use Rattle.level_sums.proofs.ColumnLaws.{partSum, part-none, part-more, part-all}
 use borrow.Author.Needs.{needs}
@@ -35,7 +35,7 @@ add-part-at : tie.Need-add-part-at Inv-loop μ-loop
 add-part-at c = omega (arith, accepted (start (c .before) .pre .0 .0))
 
 part-at-requires : tie.Need-part-at-requires Inv-loop μ-loop
-part-at-requires c κs = let g = start (c .before) .pre .0 .0 in position g (omega arith) (omega (arith, accepted g .columns-some))
+part-at-requires c κs = start (c .before) .pre .0 .0 .ready
 
 add-requires : tie.Need-add-requires Inv-loop μ-loop
 add-requires c κs =

@@ -8,7 +8,7 @@ use Rattle.shape.specs.Need.{levelNeed}
 use Rattle.memory.specs.Parts.{turned}
 use Rattle.lines.specs.Rows.{Given}
 use Rattle.level_sums.specs.Sums.{windowSum, rowChange}
-use Rattle.level_sums.proofs.Room.{columns-room, column-room, position}
+use Rattle.level_sums.proofs.Room.{columns-room, column-room}
 use Rattle.level_sums.proofs.Running.{turned-is, Pass, pass, pass-signed, pass-done}
 use Rattle.level_sums.proofs.ColumnLaws.{window-signed, change-next, row-next}
 use borrow.Author.Needs.{needs}
@@ -47,16 +47,16 @@ passed c =
     (λ q h. row-next x y (given s) (a .i) (a .j + 1) q (omega arith) (omega arith) h)
 
 part-at-requires : tie.Need-part-at-requires
-part-at-requires c κs = position (given (begin c)) (omega arith) (omega arith)
+part-at-requires c κs = given (begin c) .ready
 
 part-at-requires-2 : tie.Need-part-at-requires-2
-part-at-requires-2 c κs = position (given (begin (c .before))) (omega arith) (omega arith)
+part-at-requires-2 c κs = given (begin (c .before)) .ready
 
 part-at-requires-3 : tie.Need-part-at-requires-3
-part-at-requires-3 c κs = position (given (begin (c .before .before))) (omega arith) (omega arith)
+part-at-requires-3 c κs = given (begin (c .before .before)) .ready
 
 part-at-requires-4 : tie.Need-part-at-requires-4
-part-at-requires-4 c κs = position (given (begin (c .before .before .before))) (omega arith) (omega arith)
+part-at-requires-4 c κs = given (begin (c .before .before .before)) .ready
 
 turn-requires : tie.Need-turn-requires
 turn-requires c κs =

@@ -5,7 +5,7 @@ use mathlib.Core.Path.{_≡_, _∙_}
 use native.Mathlib.Omega.{arith}
 use Rattle.memory.specs.Memory.{Changed}
 use Rattle.memory.proofs.Memory.{changed-none, changed-again}
-use Rattle.level_sums.proofs.Room.{accepted, columns-room, position}
+use Rattle.level_sums.proofs.Room.{columns-room}
 use Rattle.level_sums.proofs.Running.{run-swapped}
 use Rattle.level_sums.proofs.ColumnLaws.{rowSum, row-more, changeRun, change-none}
 use borrow.Author.Needs.{needs}
@@ -39,10 +39,10 @@ loop-holds c =
     (omega arith, changed-none _ _ (a .shape .cycle) _ (λ q h. z .clear .ensures .holds q h ∙ change-none (a .shape) (a .image .now) (a .i) q))
 
 part-at-requires : tie.Need-part-at-requires Inv-loop μ-loop
-part-at-requires c κs = let g = start (c .before) .pre .0 .0 in position g (omega arith) (omega (arith, accepted g .columns-some))
+part-at-requires c κs = start (c .before) .pre .0 .0 .ready
 
 part-at-requires-2 : tie.Need-part-at-requires-2 Inv-loop μ-loop
-part-at-requires-2 c κs = let g = start (c .before .before) .pre .0 .0 in position g (omega arith) (omega (arith, accepted g .columns-some))
+part-at-requires-2 c κs = start (c .before .before) .pre .0 .0 .ready
 
 swap-requires : tie.Need-swap-requires Inv-loop μ-loop
 swap-requires c κs =

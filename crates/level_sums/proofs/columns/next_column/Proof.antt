@@ -6,7 +6,7 @@ use native.Mathlib.Omega.{arith}
 use Rattle.memory.specs.Memory.{Changed}
 use Rattle.memory.proofs.Memory.{changed-none, changed-again, changed-is}
 use Rattle.level_sums.specs.Sums.{windowSum}
-use Rattle.level_sums.proofs.Room.{accepted, columns-room, column-room, need-fits, position}
+use Rattle.level_sums.proofs.Room.{accepted, columns-room, column-room, need-fits}
 use Rattle.level_sums.proofs.Running.{run-swapped}
 use Rattle.level_sums.proofs.ColumnLaws.{enteringSum, leavingSum, entering-more, leaving-more, columnRun, column-none, column-all}
 use borrow.Author.Needs.{needs}
@@ -57,13 +57,13 @@ add-part-at : tie.Need-add-part-at Inv-loop μ-loop
 add-part-at c = omega (arith, accepted (start (c .before) .pre .0 .0))
 
 part-at-requires : tie.Need-part-at-requires Inv-loop μ-loop
-part-at-requires c κs = position (start (c .before) .pre .0 .0) (omega arith) (omega arith)
+part-at-requires c κs = start (c .before) .pre .0 .0 .ready
 
 add-part-at-2 : tie.Need-add-part-at-2 Inv-loop μ-loop
 add-part-at-2 c = omega (arith, accepted (start (c .before .before) .pre .0 .0))
 
 part-at-requires-2 : tie.Need-part-at-requires-2 Inv-loop μ-loop
-part-at-requires-2 c κs = position (start (c .before .before) .pre .0 .0) (omega arith) (omega arith)
+part-at-requires-2 c κs = start (c .before .before) .pre .0 .0 .ready
 
 swap-requires : tie.Need-swap-requires Inv-loop μ-loop
 swap-requires c κs =

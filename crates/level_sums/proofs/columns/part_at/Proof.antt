@@ -4,7 +4,7 @@ use mathlib.Core.Path.{_≡_, ap₂}
 use native.Mathlib.Omega.{arith}
 use lib.ListN.{getD}
 use Rattle.refusal.specs.Limits.{levelCycle}
-use Rattle.shape.specs.Rules.{area}
+use Rattle.shape.specs.Rules.{reach, area}
 use Rattle.shape.proofs.Accepted.{Accepted, shape-clear, area-fits}
 use Rattle.window.specs.Window.{padded}
 use Rattle.window.proofs.Mirror.{mirror-below}
@@ -21,16 +21,17 @@ abbrev row : tie.After-mirrored2 → tie.After-mirrored
 row c = c .before .before .before
 
 sizes : (s : tie.Start) → Accepted levelCycle (s .args .shape)
-sizes s = shape-clear levelCycle (s .args .shape) (s .pre .0 .shape)
+sizes s = shape-clear levelCycle (s .args .shape) (s .pre .shape)
 
 -- the place lies within the image, and its reading is that of the padded image
 inside : (c : tie.After-mirrored2) → let s = start (row c) .args .shape in row c .mirrored .result * s .columns + c .mirrored2 .result < area s
 inside c =
-    let s = start (row c) in
-    let k = sizes s in
-    spot-below (s .args .shape .rows) (s .args .shape .columns) _ _
-    (omega (arith, row c .mirrored .ensures, mirror-below _ _ _ (k .rows-reach) (s .pre .1 .0)))
-    (omega (arith, c .mirrored2 .ensures, mirror-below _ _ _ (k .columns-reach) (s .pre .1 .1)))
+    let a = start (row c) .args in
+    let s = a .shape in
+    let k = sizes (start (row c)) in
+    spot-below (s .rows) (s .columns) _ _
+    (omega (arith, row c .mirrored .ensures, mirror-below (s .rows) (reach (s .«mask_rows»)) (a .row-position) (k .rows-some)))
+    (omega (arith, c .mirrored2 .ensures, mirror-below (s .columns) (reach (s .«mask_columns»)) (a .column-position) (k .columns-some)))
 
 reading : (c : tie.After-mirrored2) → let a = start (row c) .args in
     getD (a .image .now) (row c .mirrored .result * a .shape .columns + c .mirrored2 .result) 0
@@ -41,10 +42,10 @@ reading c =
     ap₂ (λ (x y : ℕ). getD (a .image .now) (x * a .shape .columns + y) 0) (row c .mirrored .ensures) (c .mirrored2 .ensures)
 
 mirrored-requires : tie.Need-mirrored-requires
-mirrored-requires c κs = let s = c .before .before .before in (omega (arith, sizes s .rows-fit), sizes s .rows-reach, s .pre .1 .0)
+mirrored-requires c κs = let k = sizes (c .before .before .before) in (k .rows-some, omega (arith, k .rows-fit))
 
 mirrored-requires-2 : tie.Need-mirrored-requires-2
-mirrored-requires-2 c κs = let s = start (c .before .before) in (sizes s .columns-fit, sizes s .columns-reach, s .pre .1 .1)
+mirrored-requires-2 c κs = let k = sizes (start (c .before .before)) in (k .columns-some, k .columns-fit)
 
 mul-place : tie.Need-mul-place
 mul-place c = let m = c .before in omega (arith, inside m, area-fits (sizes (start (row m))))
@@ -56,14 +57,14 @@ mul-part-of : tie.Need-mul-part-of
 mul-part-of c = let m = c .before .before in omega (arith, inside m, area-fits (sizes (start (row m))))
 
 shared-slice-read-part-of : tie.Need-shared-slice-read-part-of
-shared-slice-read-part-of c = let m = c .before .before .before in omega (arith, inside m, start (row m) .pre .0 .size)
+shared-slice-read-part-of c = let m = c .before .before .before in omega (arith, inside m, start (row m) .pre .size)
 
 part-of-requires : tie.Need-part-of-requires
 part-of-requires c κs =
     let m = c .before .before .before in
     let s = start (row m) in
     let a = s .args in
-    (sizes s .cycle-fits, rw (reading m) (padded-reading (s .pre .0) (omega arith) (a .row-position) (a .column-position) (s .pre .1 .0) (s .pre .1 .1)))
+    (sizes s .cycle-fits, rw (reading m) (padded-reading (s .pre) (omega arith) (a .row-position) (a .column-position)))
 
 returns : tie.Need-returns
 returns c = rw (reading (c .before .before .before .before)) at (c .part-of .ensures)

@@ -44,7 +44,7 @@ sub-pad : tie.Need-sub-pad Inv-loop μ-loop
 sub-pad c = omega (arith, begun (c .before) .pre .0 .2 .begun (omega (arith, c .if1 .left)))
 
 pad-requires : tie.Need-pad-requires Inv-loop μ-loop
-pad-requires c κs = let s = begun (c .before .before) in (s .pre .0 .0 .ready, omega (arith, s .pre .0 .1), s .pre .1 .0 .2)
+pad-requires c κs = let s = begun (c .before .before) in (s .pre .0 .0 .ready, s .pre .1 .0 .2)
 
 loop-holds : tie.Need-loop-holds Inv-loop μ-loop
 loop-holds c =

@@ -76,7 +76,7 @@ sub-pad c = let s = start (centred (cleared c)) in omega (arith, accepted s .mas
 pad-requires : tie.Need-pad-requires
 pad-requires c κs =
     let s = start (centred (cleared (c .before))) in
-    (s .pre .0 .0 .ready, omega (arith, s .pre .0 .1, accepted s .mask-rows-odd), s .pre .1 .0 .last-line)
+    (s .pre .0 .0 .ready, s .pre .1 .0 .last-line)
 
 -- the line that the centres were found with is still one
 own-kept : (c : tie.After-centres) → IsLine (c .centres .last .1 .1 .1 .1 .0)

@@ -9,7 +9,7 @@ use Rattle.refusal.specs.Limits.{longestCycle}
 use Rattle.shape.proofs.Accepted.{Accepted}
 use Rattle.lines.specs.Lines.{IsLine, Reads, lineLength, paddedLength}
 use Rattle.reading_lines.specs.Passes.{Measurable}
-use Rattle.reading_planes.proofs.Sums.{sizes, line-room, row-inside}
+use Rattle.reading_planes.proofs.Sums.{sizes, line-room}
 use Rattle.reading_sums.proofs.Measured.{short-plain, measurable}
 use Rattle.reading_sums.proofs.Turns.{Rows, rows-none, rows-one, rows-two, rows-counted}
 use Rattle.reading_sums.proofs.build.count_rows.Statement.{statement}
@@ -95,15 +95,12 @@ pad-requires : tie.Need-pad-requires Inv-loop μ-loop
 pad-requires c κs =
     let l = c .before .before .loop in
     let s = start (c .before .before) in
-    (s .pre .0 .0, row-inside (s .args .shape) (s .pre .0 .0 .shape) (s .args .i) (l .k) (s .pre .0 .1) (l .inv .0), l .inv .3)
+    (s .pre .0 .0, l .inv .3)
 
 pad-requires-2 : tie.Need-pad-requires-2 Inv-loop μ-loop
 pad-requires-2 c κs =
     let t = turn (c .before .before .before) in
-    let s = start (t .before) in
-    let l = t .before .loop in
-    let below : l .k + 1 < s .args .shape .«mask_rows» = t .loop-test .taken in
-    (s .pre .0 .0, omega (arith, row-inside (s .args .shape) (s .pre .0 .0 .shape) (s .args .i) (l .k + 1) (s .pre .0 .1) below), l .inv .4)
+    (start (t .before) .pre .0 .0, t .before .loop .inv .4)
 
 distances-to-two-requires : tie.Need-distances-to-two-requires Inv-loop μ-loop
 distances-to-two-requires c κs =
