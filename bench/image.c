@@ -37,7 +37,8 @@ void draw(enum kind kind, const struct task *task, uint16_t *image)
                 image[i * columns + j] = (uint16_t)below(&state, task->cycle);
 }
 
-/* The index that a position of a padded side stands for. */
+/* The index that a position of a padded side stands for; no mask here is so long that it would need more than one
+ * reflection. */
 static size_t mirrored(size_t length, size_t reach, size_t position)
 {
     if (position < reach)

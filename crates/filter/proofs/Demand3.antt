@@ -14,13 +14,17 @@ use Rattle.lists.proofs.Written.{written-inside}
 use Rattle.cycle.specs.Silence.{silent, heard}
 use Rattle.cycle.proofs.SilenceLaws.{all-heard}
 use Rattle.shape.specs.declared.Shape.{Shape}
+use Rattle.shape.specs.Rules.{reach}
 use Rattle.median.specs.Sum.{Ticks}
 use Rattle.median.specs.Choice.{chosen}
+use Rattle.median.specs.Median.{phaseOf}
 use Rattle.median.specs.Closest.{NoCloser, EqualIsReading}
 use Rattle.window.specs.Window.{window, centre}
+use Rattle.window.specs.Once.{windowOnce}
 use Rattle.window.specs.Phase.{phase, phaseAt}
 use Rattle.window.specs.Ready.{Ready}
 use Rattle.window.proofs.Window.{sizes, all-heard-odd}
+use Rattle.window.proofs.Once.{phase-once}
 use Rattle.window.proofs.Phase.{phase-at, phase-closest, phase-equal, phase-heard, phase-none, phase-all-heard}
 use Rattle.filter.specs.declared.Engine.{Engine}
 use Rattle.filter.specs.declared.Engine.the-variants.{Level, Reading}
@@ -67,6 +71,11 @@ module _ {e : Engine} {s : Shape} {first end : ℕ} {image output work output₁
 
   pub spot-silent : heard (window 0 s image i j) ≡ [] → getD output₁ (i * s .columns + j) 0 ≡ silent
   spot-silent none = spot-filtered ∙ phase-none ready (limit-fits e) i j inside column none
+
+  -- Document 02, T-02: "Where one reflection was enough nothing in the image differs." The spot gets the phase of document 01's window.
+  pub once-filtered : reach (s .«mask_rows») ≤ s .rows → reach (s .«mask_columns») ≤ s .columns
+      → getD output₁ (i * s .columns + j) 0 ≡ phaseOf (s .cycle) (centre 0 s image i j) (windowOnce 0 s image i j)
+  once-filtered rows columns = spot-filtered ∙ phase-once (sizes ready (limit-fits e)) rows columns i j inside column image
 
   -- Where all of the window is heard, the number heard is odd, and demand 3 holds of its readings as document 01 has it: the phase is the one
   -- chosen among all ticks, no point is closer, and an equally close one is a reading.

@@ -57,7 +57,7 @@ fn repeat(line: &mut [u16], from: usize, end: usize, period: usize)
     }
 }
 
-// Puts the n numbers that follow the first n of a line there, backwards.
+// Sets the first n numbers of a line to the n that follow them, backwards.
 fn reflect(line: &mut [u16], n: usize)
     requires { ⌜ 2 * n ≤ length (now line) ⌝ }
     ensures { λ _. ⌜ Changed (now (line .entry)) (now (line .exit)) 0 n (backwards (now (line .entry)) (2 * n)) ⌝ }
@@ -77,7 +77,7 @@ fn least(a: usize, b: usize) -> usize
 }
 
 // The line of the row at a position of the padded image: the row, its reflection behind it, the two
-// repeated as far as the padding goes on, and the start of all that reflected before it.
+// repeated as far as the padding goes on, and before the row all that reflected.
 pub fn pad(shape: Shape, image: &[u16], position: usize, line: &mut [u16])
     requires { ⌜ Ready longestCycle shape (now image) × IsLine (now line) ⌝ }
     ensures { λ _. ⌜ Line shape (now (image .entry)) position (now (line .exit)) ⌝ }

@@ -2,13 +2,11 @@
 -- back. Assumes nothing.
 use Prim.Native.Nat.{ℕ, _+_, _-_, _*_, _/_, _%_, _≤_, _<_}
 use mathlib.Core.Path.{_≡_, refl, ap, sym, _∙_}
-use mathlib.Core.Bool.{cond}
 use native.Mathlib.Omega.{arith}
 use native.Mathlib.Decide.{decLt}
 use native.Mathlib.Nat.{mod-lt, mod-eq-of-lt, mul-add-mod-self-right, div-add-mod, mul-comm, mul-one, mul-add, add-mul, mul-le-mul-left, mul-le-mul-right}
-use lib.Dec.{ltb}
 use borrow.Author.Tests.{lt-ltb, le-ltb}
-use Rattle.window.specs.Mirror.{folded, mirror}
+use Rattle.window.specs.Mirror.{folded, mirror, fromStart}
 
 pub folded-low : (n k : ℕ) → k < n → folded n k ≡ k
 unfolding folded
@@ -47,12 +45,13 @@ module _ (n h : ℕ) where
       let text : p + h * (2 * n - 1) ≡ q * (2 * n) + k = omega (arith, e, ap (λ (x : ℕ). h * x) whole, mul-add h (2 * n - 1) 1, mul-one h) in
       ap (folded n) (rw text (mul-add-mod-self-right q (2 * n) k ∙ mod-eq-of-lt l))
 
-  -- The paper's sentence: the index p - h, modulo 2 n, is k, from 0 up to 2 n, also for an index that is negative.
-  pub mirror-ahead : (p q k : ℕ) → k < 2 * n → p ≡ h + (q * (2 * n) + k) → mirror n h p ≡ folded n k
-  mirror-ahead p q k l e = rounds p (h + q) k l (omega (arith, e, add-mul h q (2 * n)))
+  -- The paper's sentence: the index p - h is k modulo 2 n, with k from 0 up to 2 n. First for an index that is not negative, then for one that
+  -- is q rounds below k.
+  pub mirror-modulo : (p q k : ℕ) → k < 2 * n → p ≡ h + (q * (2 * n) + k) → mirror n h p ≡ folded n k
+  mirror-modulo p q k l e = rounds p (h + q) k l (omega (arith, e, add-mul h q (2 * n)))
 
-  pub mirror-behind : (p q k : ℕ) → k < 2 * n → p + q * (2 * n) ≡ h + k → mirror n h p ≡ folded n k
-  mirror-behind p q k l e = go (decLt h q)
+  pub mirror-negative : (p q k : ℕ) → k < 2 * n → p + q * (2 * n) ≡ h + k → mirror n h p ≡ folded n k
+  mirror-negative p q k l e = go (decLt h q)
     where
       go : Dec (h < q) → mirror n h p ≡ folded n k
       go (yes g) = absurd (omega (arith, e, mul-le-mul-right (2 * n) g, mul-le-mul-left h some, mul-one h))
@@ -70,24 +69,24 @@ module _ (n h : ℕ) where
 
   -- the position k behind the start of the axis
   pub mirror-index : (k : ℕ) → 0 < n → mirror n h (h + k) ≡ folded n (k % (2 * n))
-  mirror-index k l = by-rounds n k l (λ q r a d e. rw (← e) (mirror-ahead (h + k) q r a (omega arith)))
+  mirror-index k l = by-rounds n k l (λ q r a d e. rw (← e) (mirror-modulo (h + k) q r a (omega arith)))
 
   -- an index stands for itself
   pub mirror-inside : (i : ℕ) → i < n → mirror n h (i + h) ≡ i
-  mirror-inside i l = mirror-ahead (i + h) 0 i (omega arith) (omega arith) ∙ folded-low n i l
+  mirror-inside i l = mirror-modulo (i + h) 0 i (omega arith) (omega arith) ∙ folded-low n i l
 
   -- The axis is mirrored at its start, however far: k before it stands for what k behind it stands for.
   pub mirror-start : (k : ℕ) → 0 < n → k < h → mirror n h (h - 1 - k) ≡ mirror n h (h + k)
   mirror-start k l g = by-rounds n k l (λ q r a d e.
       let more : (q + 1) * (2 * n) ≡ q * (2 * n) + 2 * n = add-mul q 1 (2 * n) ∙ omega arith in
-      mirror-behind (h - 1 - k) (q + 1) (2 * n - 1 - r) (omega arith) (omega arith)
-      ∙ folded-back n r a ∙ sym (mirror-ahead (h + k) q r a (omega arith)))
+      mirror-negative (h - 1 - k) (q + 1) (2 * n - 1 - r) (omega arith) (omega arith)
+      ∙ folded-back n r a ∙ sym (mirror-modulo (h + k) q r a (omega arith)))
 
   -- so a position stands for what its distance from the start stands for, whole rounds left out
-  pub mirror-from-start : (p : ℕ) → 0 < n → mirror n h p ≡ folded n (cond (ltb p h) (h - 1 - p) (p - h) % (2 * n))
+  pub mirror-from-start : (p : ℕ) → 0 < n → mirror n h p ≡ folded n (fromStart h p % (2 * n))
   mirror-from-start p l = go (decLt p h)
     where
-      go : Dec (p < h) → mirror n h p ≡ folded n (cond (ltb p h) (h - 1 - p) (p - h) % (2 * n))
+      go : Dec (p < h) → mirror n h p ≡ folded n (fromStart h p % (2 * n))
       go (yes g) =
           let here : p ≡ h - 1 - (h - 1 - p) = omega arith in
           rw (lt-ltb p h g) (ap (mirror n h) here ∙ mirror-start (h - 1 - p) l (omega arith) ∙ mirror-index (h - 1 - p) l)
@@ -99,17 +98,17 @@ module _ (n h : ℕ) where
   pub mirror-round : (k : ℕ) → 0 < n → mirror n h (h + (k + 2 * n)) ≡ mirror n h (h + k)
   mirror-round k l = by-rounds n k l (λ q r a d e.
       let more : (q + 1) * (2 * n) ≡ q * (2 * n) + 2 * n = add-mul q 1 (2 * n) ∙ omega arith in
-      mirror-ahead (h + (k + 2 * n)) (q + 1) r a (omega arith) ∙ sym (mirror-ahead (h + k) q r a (omega arith)))
+      mirror-modulo (h + (k + 2 * n)) (q + 1) r a (omega arith) ∙ sym (mirror-modulo (h + k) q r a (omega arith)))
 
   -- where one reflection is enough: the three parts of the padded axis
   pub mirror-low : (p : ℕ) → p < h → h - 1 - p < n → mirror n h p ≡ h - 1 - p
-  mirror-low p g l = mirror-behind p 1 (2 * n - 1 - (h - 1 - p)) (omega arith) (omega arith) ∙ folded-back n (h - 1 - p) (omega arith) ∙ folded-low n (h - 1 - p) l
+  mirror-low p g l = mirror-negative p 1 (2 * n - 1 - (h - 1 - p)) (omega arith) (omega arith) ∙ folded-back n (h - 1 - p) (omega arith) ∙ folded-low n (h - 1 - p) l
 
   pub mirror-middle : (p : ℕ) → h ≤ p → p - h < n → mirror n h p ≡ p - h
-  mirror-middle p g l = mirror-ahead p 0 (p - h) (omega arith) (omega arith) ∙ folded-low n (p - h) l
+  mirror-middle p g l = mirror-modulo p 0 (p - h) (omega arith) (omega arith) ∙ folded-low n (p - h) l
 
   pub mirror-high : (p : ℕ) → h ≤ p → n ≤ p - h → p - h < 2 * n → mirror n h p ≡ 2 * n - 1 - (p - h)
-  mirror-high p g l u = mirror-ahead p 0 (p - h) u (omega arith) ∙ folded-high n (p - h) l
+  mirror-high p g l u = mirror-modulo p 0 (p - h) u (omega arith) ∙ folded-high n (p - h) l
 
   -- and at its end: k behind the last index stands for what k before it stands for
   pub mirror-end : (k : ℕ) → 0 < n → k < n + h → mirror n h (h + (n + k)) ≡ mirror n h (h + n - 1 - k)

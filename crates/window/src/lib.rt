@@ -1,16 +1,14 @@
 // The mirrored edges of an image in code, for the engines. Internal: `mirrored` has a `requires`, which
 // every engine meets.
 ghost use mathlib.Core.Path.{_≡_};
-ghost use mathlib.Core.Bool.{cond};
-ghost use Prim.Native.Nat.{_-_, _*_, _%_, _≤_, _<_};
-ghost use lib.Dec.{ltb};
+ghost use Prim.Native.Nat.{_*_, _%_, _≤_, _<_};
 ghost use Rattle.refusal.specs.Limits.{mostColumns};
-ghost use Rattle.window.specs.Mirror.{folded, mirror};
+ghost use Rattle.window.specs.Mirror.{folded, mirror, fromStart};
 
-// How far a position lies from the start of the axis, behind it or before it: the start is an edge, at
-// which both are the same.
+// How far a position lies from the start of the axis, before it or behind it: the axis is mirrored there, so
+// that both stand for the same.
 fn from_start(reach: usize, position: usize) -> usize
-    ensures { λ r. ⌜ r ≡ cond (ltb position reach) (reach - 1 - position) (position - reach) ⌝ }
+    ensures { λ r. ⌜ r ≡ fromStart reach position ⌝ }
 {
     if position < reach {
         reach - 1 - position
