@@ -27,12 +27,12 @@ pub enum Engine {
     Reading,
 }
 
-/// Filters the rows of a range. Refusals: 1 to 9, in this order.
+/// Filters the rows of a range. Refusals: 1, 2, 3, 5 to 9, in this order.
 ///
 /// `input` has rows · columns readings, row by row, each a tick or [`SILENT`](crate::SILENT). `output` is at least as
 /// long; the rows of the range are written, each at its own spot of the whole image, and the rest stays. `work` has at
 /// least [`work_len`](crate::work_len) numbers; as many are zero at the end. What `output` and `work` held before makes
-/// no difference.
+/// no difference. At its edges the image is mirrored, the edge repeated, as often as the mask needs.
 ///
 /// ```
 /// use circle_median::{filter, work_len, Engine, Refusal, Shape};

@@ -14,7 +14,7 @@ use reading_sums::carry_on;
 use shape::Shape;
 ghost use mathlib.Core.Path.{_≡_};
 ghost use mathlib.Core.Bool.{true};
-ghost use Prim.Native.Nat.{_+_, _-_, _*_, _<_};
+ghost use Prim.Native.Nat.{_+_, _-_, _<_};
 ghost use lib.ListN.{length};
 ghost use Rattle.refusal.specs.Limits.{longestCycle};
 ghost use Rattle.refusal.specs.Outcome.{Clear};

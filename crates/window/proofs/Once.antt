@@ -1,7 +1,7 @@
 -- Where one reflection is enough (r ≤ M and t ≤ N), nothing differs from document 01: mirror, window and phase are what they were before
 -- T-02. Assumes nothing.
 use Prim.Native.Nat.{ℕ, _+_, _-_, _*_, _≤_, _<_}
-use mathlib.Core.Path.{_≡_, ap, sym, _∙_}
+use mathlib.Core.Path.{_≡_, ap}
 use mathlib.Core.List.{List}
 use native.Mathlib.Omega.{arith}
 use native.Mathlib.Decide.{decLt}

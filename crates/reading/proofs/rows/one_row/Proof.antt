@@ -1,6 +1,5 @@
 -- `reading::rows::one_row` meets its contract: the mask rows that are kept are carried, the others built, and once all are weighed the ranks
 -- tell the phases. Assumes nothing.
-use Prim.Native.Nat.{_-_}
 use mathlib.Core.Path.{refl, sym, _∙_}
 use native.Mathlib.Omega.{arith}
 use borrow.Author.Needs.{needs}
