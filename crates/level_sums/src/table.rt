@@ -13,7 +13,7 @@ ghost use Rattle.level_sums.specs.Table.{Table, tableLength};
 pub const TABLE: usize = (3 * LEVEL_CYCLE) as usize;
 
 // k modulo the cycle, for k below two cycles.
-fn fold(cycle: usize, k: usize) -> usize
+fn wrapped(cycle: usize, k: usize) -> usize
     requires { ⌜ k < 2 * cycle ⌝ }
     ensures { λ r. ⌜ r ≡ k % cycle ⌝ }
 {
@@ -25,7 +25,7 @@ fn distance_at(cycle: usize, k: usize) -> u32
     requires { ⌜ (cycle ≤ levelCycle) × (k < 2 * cycle) ⌝ }
     ensures { λ r. ⌜ r ≡ distance cycle (k % cycle) 0 ⌝ }
 {
-    let tick = fold(cycle, k);
+    let tick = wrapped(cycle, k);
     apart(cycle as u16, tick as u16, 0) as u32
 }
 

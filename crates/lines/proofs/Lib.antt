@@ -1,4 +1,4 @@
 pub mod Padding
-pub mod Repeating
+pub mod Edges
 pub mod Standing
 pub mod Given

@@ -1,5 +1,5 @@
 -- Lines of readings, below both engines: a row of the padded image with its mirrored edges, and the centres of a row's windows.
-use Prim.Native.Nat.{ℕ, _+_, _-_, _*_, _<_}
+use Prim.Native.Nat.{ℕ, _+_, _*_, _<_}
 use mathlib.Core.Path.{_≡_}
 use mathlib.Core.Logic.{_⊎_}
 use mathlib.Core.Bool.{true, cond}
@@ -9,6 +9,7 @@ use Rattle.refusal.specs.Limits.{mostColumns, mostMaskColumns}
 use Rattle.cycle.specs.Silence.{isHeard, isReading, firstHeard}
 use Rattle.shape.specs.Rules.{reach}
 use Rattle.shape.specs.declared.Shape.{Shape}
+use Rattle.window.specs.Mirror.{mirror}
 use Rattle.window.specs.Window.{padded, part, centre}
 use Rattle.window.specs.Phase.{centreAt}
 
@@ -60,10 +61,6 @@ AllHeard line n = (j : ℕ) → j < n → isHeard (getD line j 0) ≡ true
 abbrev pub GoesOn : List ℕ → ℕ → ℕ → ℕ → ℕ → Type 0
 GoesOn line n k rows next = (next ≡ k) ⊎ ((next ≡ rows) × AllHeard line n)
 
--- a part of a row, read backwards from the number before `end`
-abbrev pub backwards : List ℕ → ℕ → ℕ → ℕ
-backwards row end q = getD row (end - 1 - q) 0
-
--- from place `from` on, the number that stands a period before, in the same line
-abbrev pub repeated : List ℕ → ℕ → ℕ → ℕ → ℕ
-repeated line from period q = getD line (from + q - period) 0
+-- a row of n numbers that stands at place h of a line, with its edges mirrored: the number at place p
+abbrev pub edged : List ℕ → ℕ → ℕ → ℕ → ℕ
+edged line n h p = getD line (h + mirror n h p) 0

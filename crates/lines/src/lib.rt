@@ -8,13 +8,13 @@ use shape::Shape;
 use window::mirrored;
 ghost use mathlib.Core.Path.{_≡_};
 ghost use mathlib.Core.Bool.{true};
-ghost use Prim.Native.Nat.{_+_, _-_, _*_, _≤_, _<_, min};
+ghost use Prim.Native.Nat.{_+_, _*_, _≤_, _<_};
 ghost use lib.ListN.{length};
 ghost use Rattle.refusal.specs.Limits.{longestCycle};
 ghost use Rattle.memory.specs.Memory.{Changed};
 ghost use Rattle.memory.specs.Parts.{copied};
 ghost use Rattle.window.specs.Ready.{Ready};
-ghost use Rattle.lines.specs.Lines.{IsLine, Line, Centres, Standing, AllHeard, heardOr, stoodIn, GoesOn, backwards, repeated};
+ghost use Rattle.lines.specs.Lines.{IsLine, Line, Centres, Standing, AllHeard, heardOr, stoodIn, GoesOn, edged};
 
 // The numbers in a line: a longest row, and a mask more at each end. A multiple of 512, so that lines one
 // after the other start alike.
@@ -32,52 +32,21 @@ fn copy_line(row: &[u16], start: usize, line: &mut [u16], to: usize, n: usize)
     }
 }
 
-// Copies n numbers of a row, from the one before `end` backwards, to a place of a line.
-fn copy_back(row: &[u16], end: usize, line: &mut [u16], to: usize, n: usize)
-    requires { ⌜ (n ≤ end) × (end ≤ length (now row)) × (to + n ≤ length (now line)) ⌝ }
-    ensures { λ _. ⌜ Changed (now (line .entry)) (now (line .exit)) to n (backwards (now (row .entry)) end) ⌝ }
+// Mirrors the edges of a row of n numbers that stands at a place of a line, as far as that place, from the edges
+// outward: the number k outside of an edge is the one k inside of it, which is there already, however far.
+fn mirror_edges(line: &mut [u16], n: usize, reach: usize)
+    requires { ⌜ (0 < n) × (n + 2 * reach ≤ length (now line)) ⌝ }
+    ensures { λ _. ⌜ Changed (now (line .entry)) (now (line .exit)) 0 (n + 2 * reach) (edged (now (line .entry)) n reach) ⌝ }
 {
-    let mut q = 0;
-    while q < n {
-        line[to + q] = row[end - 1 - q];
-        q += 1;
+    let mut k = 0;
+    while k < reach {
+        line[reach - 1 - k] = line[reach + k];
+        line[reach + n + k] = line[reach + n - 1 - k];
+        k += 1;
     }
 }
 
-// Fills a line from a place up to another: each number is the one a period before it, in the line as it
-// then is.
-fn repeat(line: &mut [u16], from: usize, end: usize, period: usize)
-    requires { ⌜ (0 < period) × (period ≤ from) × (end ≤ length (now line)) ⌝ }
-    ensures { λ _. ⌜ Changed (now (line .entry)) (now (line .exit)) from (end - from) (repeated (now (line .exit)) from period) ⌝ }
-{
-    let mut p = from;
-    while p < end {
-        line[p] = line[p - period];
-        p += 1;
-    }
-}
-
-// Sets the first n numbers of a line to the n that follow them, backwards.
-fn reflect(line: &mut [u16], n: usize)
-    requires { ⌜ 2 * n ≤ length (now line) ⌝ }
-    ensures { λ _. ⌜ Changed (now (line .entry)) (now (line .exit)) 0 n (backwards (now (line .entry)) (2 * n)) ⌝ }
-{
-    let mut q = 0;
-    while q < n {
-        line[q] = line[2 * n - 1 - q];
-        q += 1;
-    }
-}
-
-// The lesser of two numbers.
-fn least(a: usize, b: usize) -> usize
-    ensures { λ r. ⌜ r ≡ min a b ⌝ }
-{
-    if a <= b { a } else { b }
-}
-
-// The line of the row at a position of the padded image: the row, its reflection behind it, the two
-// repeated as far as the padding goes on, and before the row all that reflected.
+// The line of the row at a position of the padded image.
 pub fn pad(shape: Shape, image: &[u16], position: usize, line: &mut [u16])
     requires { ⌜ Ready longestCycle shape (now image) × IsLine (now line) ⌝ }
     ensures { λ _. ⌜ Line shape (now (image .entry)) position (now (line .exit)) ⌝ }
@@ -91,15 +60,7 @@ pub fn pad(shape: Shape, image: &[u16], position: usize, line: &mut [u16])
     )
         * columns;
     copy_line(image, row, line, reach, columns);
-    copy_back(
-        image,
-        row + columns,
-        line,
-        reach + columns,
-        least(reach, columns),
-    );
-    repeat(line, reach + 2 * columns, columns + 2 * reach, 2 * columns);
-    reflect(line, reach);
+    mirror_edges(line, columns, reach);
 }
 
 // A centre, or else a reading where it is silent.

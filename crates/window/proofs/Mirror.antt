@@ -6,7 +6,7 @@ use native.Mathlib.Omega.{arith}
 use native.Mathlib.Decide.{decLt}
 use native.Mathlib.Nat.{mod-lt, mod-eq-of-lt, mul-add-mod-self-right, div-add-mod, mul-comm, mul-one, mul-add, add-mul, mul-le-mul-left, mul-le-mul-right}
 use borrow.Author.Tests.{lt-ltb, le-ltb}
-use Rattle.window.specs.Mirror.{folded, mirror, fromStart}
+use Rattle.window.specs.Mirror.{folded, mirror}
 
 pub folded-low : (n k : ℕ) → k < n → folded n k ≡ k
 unfolding folded
@@ -82,17 +82,19 @@ module _ (n h : ℕ) where
       mirror-negative (h - 1 - k) (q + 1) (2 * n - 1 - r) (omega arith) (omega arith)
       ∙ folded-back n r a ∙ sym (mirror-modulo (h + k) q r a (omega arith)))
 
-  -- so a position stands for what its distance from the start stands for, whole rounds left out
-  pub mirror-from-start : (p : ℕ) → 0 < n → mirror n h p ≡ folded n (fromStart h p % (2 * n))
+  -- so a position stands for what its distance from the start stands for, on whichever side it lies
+  pub mirror-from-start : (p : ℕ) → 0 < n → mirror n h p ≡ folded n (((h - 1 - p) + (p - h)) % (2 * n))
   mirror-from-start p l = go (decLt p h)
     where
-      go : Dec (p < h) → mirror n h p ≡ folded n (fromStart h p % (2 * n))
+      go : Dec (p < h) → mirror n h p ≡ folded n (((h - 1 - p) + (p - h)) % (2 * n))
       go (yes g) =
+          let far : (h - 1 - p) + (p - h) ≡ h - 1 - p = omega arith in
           let here : p ≡ h - 1 - (h - 1 - p) = omega arith in
-          rw (lt-ltb p h g) (ap (mirror n h) here ∙ mirror-start (h - 1 - p) l (omega arith) ∙ mirror-index (h - 1 - p) l)
+          rw far (ap (mirror n h) here ∙ mirror-start (h - 1 - p) l (omega arith) ∙ mirror-index (h - 1 - p) l)
       go (no g) =
+          let far : (h - 1 - p) + (p - h) ≡ p - h = omega arith in
           let here : p ≡ h + (p - h) = omega arith in
-          rw (le-ltb p h (omega arith)) (ap (mirror n h) here ∙ mirror-index (p - h) l)
+          rw far (ap (mirror n h) here ∙ mirror-index (p - h) l)
 
   -- It goes round: a position two axes on stands for the same.
   pub mirror-round : (k : ℕ) → 0 < n → mirror n h (h + (k + 2 * n)) ≡ mirror n h (h + k)

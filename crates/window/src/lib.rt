@@ -1,14 +1,14 @@
 // The mirrored edges of an image in code, for the engines. Internal: `mirrored` has a `requires`, which
 // every engine meets.
 ghost use mathlib.Core.Path.{_≡_};
-ghost use Prim.Native.Nat.{_*_, _%_, _≤_, _<_};
+ghost use Prim.Native.Nat.{_+_, _-_, _*_, _%_, _≤_, _<_};
 ghost use Rattle.refusal.specs.Limits.{mostColumns};
-ghost use Rattle.window.specs.Mirror.{folded, mirror, fromStart};
+ghost use Rattle.window.specs.Mirror.{folded, mirror};
 
 // How far a position lies from the start of the axis, before it or behind it: the axis is mirrored there, so
 // that both stand for the same.
 fn from_start(reach: usize, position: usize) -> usize
-    ensures { λ r. ⌜ r ≡ fromStart reach position ⌝ }
+    ensures { λ r. ⌜ r ≡ (reach - 1 - position) + (position - reach) ⌝ }
 {
     if position < reach {
         reach - 1 - position
