@@ -32,8 +32,8 @@ fn copy_line(row: &[u16], start: usize, line: &mut [u16], to: usize, n: usize)
     }
 }
 
-// Mirrors the edges of a row of n numbers that stands at a place of a line, as far as that place, from the edges
-// outward: the number k outside of an edge is the one k inside of it, which is there already, however far.
+// Puts the mirrored edges, `reach` numbers each, beside a row of n numbers that stands at place `reach` of a line.
+// From the edges outward: the number k outside of an edge is the one k inside of it, which is there already.
 fn mirror_edges(line: &mut [u16], n: usize, reach: usize)
     requires { ⌜ (0 < n) × (n + 2 * reach ≤ length (now line)) ⌝ }
     ensures { λ _. ⌜ Changed (now (line .entry)) (now (line .exit)) 0 (n + 2 * reach) (edged (now (line .entry)) n reach) ⌝ }
