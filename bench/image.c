@@ -1,5 +1,6 @@
-/* The images that are filtered: random or drifting, and padded with their mirrored edges. */
+/* The images that are filtered: random or drifting, with silent readings, and padded with their mirrored edges. */
 #include "image.h"
+#include "circle_median.h"
 
 /* A fixed stream of numbers (xorshift), so that every run sees the same images. */
 static uint32_t next(uint32_t *state)
@@ -35,6 +36,16 @@ void draw(enum kind kind, const struct task *task, uint16_t *image)
         else
             for (size_t j = 0; j < columns; j++)
                 image[i * columns + j] = (uint16_t)below(&state, task->cycle);
+}
+
+void silence(uint16_t *image, size_t spots, uint32_t percent)
+{
+    uint64_t state = 1;
+    for (size_t k = 0; k < spots; k++) {
+        state = state * 6364136223846793005u + 1442695040888963407u;
+        if ((state >> 33) % 100 < percent)
+            image[k] = CIRCLE_MEDIAN_SILENT;
+    }
 }
 
 /* The index that a position of a padded side stands for; no mask here is so long that it would need more than one

@@ -1,12 +1,11 @@
 /* The measurement of a case. Images, their padding, outputs and work memory are made beforehand and not cleared between
  * calls; what they hold makes no difference. */
-#define _POSIX_C_SOURCE 199309L
 #include "measure.h"
+#include "clock.h"
 
 #include <stdio.h>
 #include <stdlib.h>
 #include <string.h>
-#include <time.h>
 
 static const struct candidate *const candidates[CANDIDATES] = {
     &level_engine,       &reading_engine,   &algorithm2_literal, &algorithm2_tuned,
@@ -109,13 +108,6 @@ static void compare_all(struct bench *b, const struct bench_case *k)
             candidates[c]->filter(&b->task, &b->part[c], b->output, b->work[c]);
             compare(b, c);
         }
-}
-
-static double seconds(void)
-{
-    struct timespec t;
-    clock_gettime(CLOCK_PROCESS_CPUTIME_ID, &t);
-    return (double)t.tv_sec + 1e-9 * (double)t.tv_nsec;
 }
 
 static double time_of(struct bench *b, int c)

@@ -4,14 +4,13 @@
  * The argument is how many readings in a hundred are silent. The two images are filtered in turns, and a time is the
  * least processor time of many turns. Before they are timed, the rows of both engines are compared. With 0 the two
  * images are the same, and the ratios tell how much of a ratio is chance. */
-#define _POSIX_C_SOURCE 199309L
 #include "circle_median.h"
+#include "clock.h"
 #include "image.h"
 
 #include <stdio.h>
 #include <stdlib.h>
 #include <string.h>
-#include <time.h>
 
 enum { COLUMNS = 1000, TURNS = 15, MOST_TURNS = 500 };
 
@@ -37,24 +36,6 @@ static void *memory(size_t numbers, size_t size)
     }
     memset(p, 0xA5, numbers * size);
     return p;
-}
-
-/* Makes some readings silent, so many in a hundred: the same ones at every run. */
-static void silence(uint16_t *image, size_t spots, uint32_t percent)
-{
-    uint64_t state = 1;
-    for (size_t k = 0; k < spots; k++) {
-        state = state * 6364136223846793005u + 1442695040888963407u;
-        if ((state >> 33) % 100 < percent)
-            image[k] = CIRCLE_MEDIAN_SILENT;
-    }
-}
-
-static double seconds(void)
-{
-    struct timespec t;
-    clock_gettime(CLOCK_PROCESS_CPUTIME_ID, &t);
-    return (double)t.tv_sec + 1e-9 * (double)t.tv_nsec;
 }
 
 /* Times an engine on both images, and prints the least times, in nanoseconds for a spot, and their ratio. */

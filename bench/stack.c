@@ -15,9 +15,10 @@ static ucontext_t here, there;
 static uint16_t image[ROWS * COLUMNS], output[ROWS * COLUMNS];
 static uint32_t work[CYCLE * (COLUMNS + 1)];
 static uint8_t bytes[22 + ROWS * (3 + 2 * COLUMNS)];
+static circle_median_window window;
 static uint32_t number;
 
-/* The calls: accepted with all memory, refused where one number of it is missing or an argument is no tick. */
+/* The calls: accepted with all memory, refused where one number of it is missing or an argument is one too large. */
 static size_t missing;
 
 static void nothing(void) { number = (uint32_t)missing; }
@@ -49,6 +50,19 @@ static void write(void)
 
 static void read(void) { number = circle_median_read(bytes, sizeof bytes, output, ROWS * COLUMNS - missing).number; }
 
+static void window_fresh(void)
+{
+    number = circle_median_window_fresh(CYCLE, CIRCLE_MEDIAN_WINDOW + (uint32_t)missing, window.readings,
+                                        window.sums).number;
+}
+
+/* All readings are there, so that an accepted one is answered by a phase. */
+static void window_enter(void)
+{
+    number = circle_median_window_enter(CYCLE, CIRCLE_MEDIAN_WINDOW, CIRCLE_MEDIAN_WINDOW,
+                                        (uint16_t)(CYCLE - 1 + missing), window.readings, window.sums).number;
+}
+
 /* The bytes of stack that a call takes. */
 static size_t taken(void (*call)(void))
 {
@@ -69,6 +83,7 @@ int main(void)
     static const struct { const char *name; void (*call)(void); } calls[] = {
         {"level", level}, {"reading", reading}, {"distance", distance}, {"step", step},
         {"slot", slot}, {"drift", drift}, {"write", write}, {"read", read},
+        {"window_fresh", window_fresh}, {"window_enter", window_enter},
     };
     size_t k, own = taken(nothing);
     for (k = 0; k < ROWS * COLUMNS; k++) image[k] = (uint16_t)(k * 7919 % CYCLE);

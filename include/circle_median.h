@@ -7,15 +7,20 @@
  * Of each pointer, the caller must see to it that it is not NULL, also where the length is 0, that it is aligned
  * for its type, and that as many elements as its length says may be read, or written where the pointer is not to
  * const. Memory that a call writes may not overlap that of any other argument. Lengths count elements, not bytes.
+ * A live window's pointers have no length: behind one to a window is one window, behind one to its readings or its sums
+ * are 63 numbers.
  *
- * cycle is the paper's C, rows and columns its M and N, mask_rows and mask_columns its R and T. A reading in an image,
- * a row or a record is a tick, from 0 to cycle - 1, or it is CIRCLE_MEDIAN_SILENT, on every cycle: its wake was not
- * heard. circle_median_distance, step and slot take no silent argument.
+ * cycle is the paper's C, rows and columns its M and N, mask_rows and mask_columns its R and T; the length of a live
+ * window is its T too. A reading in an image, a row, a record or a live window is a tick, from 0 to cycle - 1, or it is
+ * CIRCLE_MEDIAN_SILENT, on every cycle: its wake was not heard. circle_median_distance, step and slot take no silent
+ * argument.
  *
  *  number  why                                                                               place
- *       1  the cycle is 0, or longer than the call takes: 65,535; 4,096 for the level engine
+ *       1  the cycle is 0, or longer than the call takes: 65,535; 4,096 for the level engine;
+ *          512 for a live window
  *       2  rows outside 1 to 1,024, or columns (or a row's length) outside 1 to 8,192
- *       3  a mask side that is even, or above 255
+ *       3  a mask side that is even, or above 255; a live window's length that is even,
+ *          or above 63
  *       4  reserved: a mask may be longer than the image, and no call is refused so any more
  *       5  first is above end, or end above rows
  *       6  the input, or the readings to write, are not rows * columns
@@ -31,7 +36,7 @@
  * for all calls but circle_median_read, which tests field by field.
  *
  * Stack, in bytes, measured on x86-64: an accepted circle_median_level takes 85,048 and an accepted
- * circle_median_reading 213,384, since their tables and lines are local; every other call, and every call that is
+ * circle_median_reading 213,416, since their tables and lines are local; every other call, and every call that is
  * refused, takes at most 320.
  */
 #ifndef CIRCLE_MEDIAN_H
@@ -69,6 +74,15 @@ typedef struct circle_median_record_answer {
     uint32_t mask_rows;
     uint32_t mask_columns;
 } circle_median_record_answer;
+
+/* value is the phase, CIRCLE_MEDIAN_SILENT if none of the last length readings was heard, -1 while the window fills,
+ * and 0 if the reading was refused. filled is how many of the length readings are there now; as it was if refused. */
+typedef struct circle_median_window_answer {
+    uint32_t number;
+    uint64_t place;
+    int64_t value;
+    uint32_t filled;
+} circle_median_window_answer;
 
 /* Filters rows first to end - 1 of an image by the level engine, which takes cycles up to 4,096.
  *
@@ -123,6 +137,69 @@ circle_median_value_answer circle_median_write(
 circle_median_record_answer circle_median_read(
     const uint8_t *bytes, size_t bytes_length,
     uint16_t *readings, size_t readings_length);
+
+/* A live window has room for so many readings, and for a sum at each. */
+#define CIRCLE_MEDIAN_WINDOW 63
+
+/* A live window: the filter wake by wake for one label, with no stored image. It takes cycles up to 512.
+ *
+ * circle_median_window_new makes it, and circle_median_window_push gives it a reading. From fresh, the first length - 1
+ * readings are each answered by "filling", and no others are. From then on each is answered by the phase of the last
+ * length readings, the middle one being the centre. Silent readings count among them; refused ones do not. So for a row
+ * of up to 8,192 the answer to reading k, for k from length - 1 on, is what both engines write at column
+ * k - length / 2, with this row alone and a mask of 1 by length.
+ *
+ * The members are the calls' own, and a copy is a window of its own. Of a window that these calls did not make it is
+ * only said that each call returns, with an answer or a refusal. */
+typedef struct circle_median_window {
+    uint32_t cycle;
+    uint32_t length;
+    uint32_t filled;
+    uint16_t readings[CIRCLE_MEDIAN_WINDOW];
+    uint16_t sums[CIRCLE_MEDIAN_WINDOW];
+} circle_median_window;
+
+/* Makes all readings of a live window silent and all its sums 0. 1 and 3 are tested. This call and the next are the
+ * library's; the three after them are plain C around them, which stores cycle, length and filled and does no more. */
+circle_median_answer circle_median_window_fresh(
+    uint32_t cycle, uint32_t length, uint16_t *readings, uint16_t *sums);
+
+/* Pushes a reading into the readings and sums of a live window of which so many are filled. 1, 3 and 9 are tested, the
+ * last with place 0. */
+circle_median_window_answer circle_median_window_enter(
+    uint32_t cycle, uint32_t length, uint32_t filled, uint16_t reading, uint16_t *readings, uint16_t *sums);
+
+/* Makes w a fresh window; what it held before makes no difference, and a refused call leaves it. 1 and 3 are tested. */
+static inline circle_median_answer circle_median_window_new(circle_median_window *w, uint32_t cycle, uint32_t length)
+{
+    circle_median_answer answer = circle_median_window_fresh(cycle, length, w->readings, w->sums);
+
+    if (answer.number == 0) {
+        w->cycle = cycle;
+        w->length = length;
+        w->filled = 0;
+    }
+    return answer;
+}
+
+/* Pushes a reading. The value is the phase, CIRCLE_MEDIAN_SILENT if none of the last length readings was heard, and -1
+ * while the window fills. A refused reading leaves the window as it was; where circle_median_window_new made it, only 9
+ * can come, with place 0. */
+static inline circle_median_value_answer circle_median_window_push(circle_median_window *w, uint16_t reading)
+{
+    circle_median_window_answer entered =
+        circle_median_window_enter(w->cycle, w->length, w->filled, reading, w->readings, w->sums);
+    circle_median_value_answer answer = {entered.number, entered.place, entered.value};
+
+    w->filled = entered.filled;
+    return answer;
+}
+
+/* Makes a window fresh again, of the same cycle and length: never refused where circle_median_window_new made it. */
+static inline circle_median_answer circle_median_window_reset(circle_median_window *w)
+{
+    return circle_median_window_new(w, w->cycle, w->length);
+}
 
 #ifdef __cplusplus
 }

@@ -1,5 +1,5 @@
-"""Document 01, with document 02's silent wakes (T-01) and repeated mirror (T-02), in Python, by direct sums: no running sums, and
-nothing shared with the crates.
+"""Document 01, with document 02's silent wakes (T-01), repeated mirror (T-02) and live window (T-03), in Python, by direct sums: no
+running sums, and nothing shared with the crates.
 
 The stored outputs of the test programs are made with it. A call returns its result, or a Refusal. A reading, in an image, a
 row or a record, is a tick of the cycle or silent; an argument of distance, step or slot is a tick.
@@ -244,6 +244,55 @@ def filtered(shape, first, end, image, output):
         for j in range(n):
             output[i * n + j] = phase(shape[0], image[i * n + j], window(shape, image, i, j))
     return output
+
+
+# The live window.
+
+FILLING, ANSWERED = "filling", "answered"
+
+
+def live_refusal(c, t):
+    """The tests of a new window: 1, then 3."""
+    if not 1 <= c <= 512:
+        return Refusal(1, 0)
+    return None if t % 2 == 1 and 1 <= t <= 63 else Refusal(3, 0)
+
+
+class LiveWindow:
+    """A window of C and T, as all the readings that it has accepted since it was fresh; these are None where no call made it."""
+
+    def __init__(self, c, t, history):
+        self.c, self.t, self.history = c, t, history
+
+    def reset(self):
+        """A Refusal, or None."""
+        refusal = live_refusal(self.c, self.t)
+        if not refusal:
+            self.history = []
+        return refusal
+
+    def push(self, reading):
+        """Filling, the median of the last T, or a Refusal: 1 and 3, then 9. Where no call made the window there is some answer."""
+        refusal = live_refusal(self.c, self.t)
+        if refusal:
+            return refusal
+        if reading_fault(self.c, [reading]) is not None:
+            return Refusal(9, 0)
+        if self.history is None:
+            return ANSWERED
+        self.history.append(reading)
+        last = self.last()
+        return FILLING if len(self.history) < self.t else phase(self.c, last[self.t // 2], last)
+
+    def last(self):
+        """The last T readings, oldest first; silent ones stand for those before the first."""
+        return ([SILENT] * self.t + self.history)[len(self.history):]
+
+    def members(self):
+        """How many of the last T were pushed, the last T, and the sum at each, 0 at a silent one; behind them 63 - T silent ones."""
+        last, rest = self.last(), 63 - self.t
+        sums = [0 if x == SILENT else summed(self.c, x, heard(last)) for x in last]
+        return min(len(self.history), self.t), last + [SILENT] * rest, sums + [0] * rest
 
 
 def told(outcome):

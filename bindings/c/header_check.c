@@ -15,6 +15,16 @@ ASSERT(value_value, offsetof(circle_median_value_answer, value) == 16);
 ASSERT(record_size, sizeof(circle_median_record_answer) == 40);
 ASSERT(record_cycle, offsetof(circle_median_record_answer, cycle) == 16);
 ASSERT(record_mask_columns, offsetof(circle_median_record_answer, mask_columns) == 32);
+ASSERT(window_answer_size, sizeof(circle_median_window_answer) == 32);
+ASSERT(window_answer_place, offsetof(circle_median_window_answer, place) == 8);
+ASSERT(window_answer_value, offsetof(circle_median_window_answer, value) == 16);
+ASSERT(window_answer_filled, offsetof(circle_median_window_answer, filled) == 24);
+ASSERT(window_size, sizeof(circle_median_window) == 264);
+ASSERT(window_length, offsetof(circle_median_window, length) == 4);
+ASSERT(window_filled, offsetof(circle_median_window, filled) == 8);
+ASSERT(window_readings, offsetof(circle_median_window, readings) == 12);
+ASSERT(window_sums, offsetof(circle_median_window, sums) == 138);
+ASSERT(window_room, CIRCLE_MEDIAN_WINDOW == 63);
 ASSERT(silent, CIRCLE_MEDIAN_SILENT == 65535);
 ASSERT(silent_size, sizeof(CIRCLE_MEDIAN_SILENT) == sizeof(uint16_t));
 
@@ -43,6 +53,11 @@ static int is_value(circle_median_value_answer answer, int64_t value)
 static int is_refused(circle_median_value_answer answer, uint32_t number, uint64_t place)
 {
     return answer.number == number && answer.place == place && answer.value == 0;
+}
+
+static int is_answer(circle_median_answer answer, uint32_t number)
+{
+    return answer.number == number && answer.place == 0;
 }
 
 static int same(const uint16_t *a, const uint16_t *b)
@@ -108,10 +123,36 @@ static void check_record(void)
     expect("a silent read", record.number == 0 && record.cycle == 8 && same(readings, gaps));
 }
 
+static void check_window(void)
+{
+    circle_median_window window;
+
+    expect("new", is_answer(circle_median_window_new(&window, 8, 3), 0));
+    expect("a first push", is_value(circle_median_window_push(&window, 1), -1));
+    expect("a refused push", is_refused(circle_median_window_push(&window, 8), 9, 0));
+    expect("a second push", is_value(circle_median_window_push(&window, 4), -1));
+    expect("a third push", is_value(circle_median_window_push(&window, 1), 1));
+    expect("a refused cycle", is_answer(circle_median_window_new(&window, 513, 64), 1));
+    expect("a refused length", is_answer(circle_median_window_new(&window, 512, 64), 3));
+    expect("a push after refusals", is_value(circle_median_window_push(&window, 7), 1));
+    expect("reset", is_answer(circle_median_window_reset(&window), 0));
+    expect("a push after it", is_value(circle_median_window_push(&window, CIRCLE_MEDIAN_SILENT), -1));
+    expect("a second one", is_value(circle_median_window_push(&window, CIRCLE_MEDIAN_SILENT), -1));
+    expect("a silent window", is_value(circle_median_window_push(&window, CIRCLE_MEDIAN_SILENT), 65535));
+    expect("a silent centre", is_value(circle_median_window_push(&window, 7), 7));
+    expect("the longest window", is_answer(circle_median_window_new(&window, 512, 63), 0));
+    window.length = 65;
+    expect("a push into no window", is_refused(circle_median_window_push(&window, 512), 3, 0));
+    expect("a refused reset", is_answer(circle_median_window_reset(&window), 3));
+    window.cycle = 0;
+    expect("no cycle", is_refused(circle_median_window_push(&window, 0), 1, 0));
+}
+
 int main(void)
 {
     check_ticks();
     check_engines();
     check_record();
+    check_window();
     return wrong;
 }

@@ -3,7 +3,7 @@
 //! A cycle has C ticks, and a reading is one of them, or [`SILENT`] where a wake was not heard. The filter replaces each
 //! reading of an image by the heard reading of its window with the least sum of distances, around the cycle, to all that
 //! are heard there; of several it takes the one closest to the window's centre, and of two equally close ones the one
-//! ahead.
+//! ahead. A [`LiveWindow`] does so wake by wake, with no image stored.
 //!
 //! Every call returns its result or one [`Refusal`], and a refused call has changed no memory. No argument makes a
 //! call panic. All memory is the caller's; only [`filter_parallel`] allocates.
@@ -23,6 +23,7 @@
 
 mod cycle;
 mod filter;
+mod live;
 mod parallel;
 mod record;
 mod refusal;
@@ -31,13 +32,14 @@ pub mod sys;
 
 pub use cycle::{distance, drift, slot, step};
 pub use filter::{filter, level, reading, Engine};
+pub use live::{Live, LiveWindow};
 pub use parallel::filter_parallel;
 pub use record::{read, write};
 pub use refusal::Refusal;
 pub use shape::{record_len, work_len, Shape};
 
-/// The reading of a wake that was not heard. Images, rows and records may have it on every cycle; no cycle has it as a
-/// tick, so [`distance`], [`step`] and [`slot`] refuse it.
+/// The reading of a wake that was not heard. Images, rows, records and live windows may have it on every cycle; no
+/// cycle has it as a tick, so [`distance`], [`step`] and [`slot`] refuse it.
 ///
 /// A silent reading has no distance and adds to no sum. Where the centre of a window is silent, the first heard reading
 /// of the window, row by row, takes its part in the choice among equals; where none is heard, the output is silent.

@@ -7,9 +7,9 @@ use std::fmt;
 ///
 /// | number | why | place |
 /// |---|---|---|
-/// | 1 | the cycle is 0, above 65,535, or above 4,096 for the level engine | |
+/// | 1 | the cycle is 0, above 65,535, above 4,096 for the level engine, or above 512 for a live window | |
 /// | 2 | rows outside 1 to 1,024, or columns or a row's readings outside 1 to 8,192 | |
-/// | 3 | a mask side is even, 0 or above 255 | |
+/// | 3 | a mask side is even, 0 or above 255, or a live window's length even, 0 or above 63 | |
 /// | 4 | reserved: a mask may be longer than the image, and no call is refused so any more | |
 /// | 5 | the first row is above the end row, or the end row above the rows | |
 /// | 6 | the input is not rows · columns readings long | |
@@ -53,7 +53,7 @@ impl Refusal {
         match self.number {
             1 => "the cycle is 0 or longer than the call takes",
             2 => "rows outside 1 to 1024, or columns or a row's readings outside 1 to 8192",
-            3 => "a mask side is even, 0 or above 255",
+            3 => "a mask side is even, 0 or above 255, or a live window's length even, 0 or above 63",
             5 => "the first row is above the end row, or the end row above the rows",
             6 => "the input is not rows * columns readings long",
             7 => "the output, readings or byte buffer is too short",

@@ -2,6 +2,8 @@
 //!
 //! Functions of plain numbers are safe. A function that takes pointers needs each to be not null and aligned, also
 //! where the length is 0, its memory to be there for the whole length, and memory that it writes to overlap no other.
+//! Of a reference to an array all this is known, so the functions of a live window are safe too; what the header has
+//! around them is [`LiveWindow`](crate::LiveWindow).
 
 /// `number` is 0 if the call was accepted, and else the refusal's number, with its place.
 #[repr(C)]
@@ -44,6 +46,23 @@ pub struct RecordAnswer {
     /// Columns of the mask.
     pub mask_columns: u32,
 }
+
+/// An answer to a reading that was pushed into a live window.
+#[repr(C)]
+#[derive(Debug, Clone, Copy, PartialEq, Eq)]
+pub struct WindowAnswer {
+    /// 0, or the refusal's number.
+    pub number: u32,
+    /// The refusal's place, 0 where it has none.
+    pub place: u64,
+    /// The phase, 65,535 if none of the window is heard, -1 while it fills, and 0 if the reading was refused.
+    pub value: i64,
+    /// How many of the window's readings are there now; as it was if the reading was refused.
+    pub filled: u32,
+}
+
+/// The readings that a live window has room for, and its sums.
+pub const WINDOW: usize = 63;
 
 unsafe extern "C" {
     /// Filters rows `first` to `end - 1` by the level engine.
@@ -112,4 +131,22 @@ unsafe extern "C" {
         readings: *mut u16,
         readings_length: usize,
     ) -> RecordAnswer;
+
+    /// Makes the readings and sums of a live window fresh.
+    pub safe fn circle_median_window_fresh(
+        cycle: u32,
+        length: u32,
+        readings: &mut [u16; WINDOW],
+        sums: &mut [u16; WINDOW],
+    ) -> Answer;
+
+    /// Pushes a reading into the readings and sums of a live window of which so many are filled.
+    pub safe fn circle_median_window_enter(
+        cycle: u32,
+        length: u32,
+        filled: u32,
+        reading: u16,
+        readings: &mut [u16; WINDOW],
+        sums: &mut [u16; WINDOW],
+    ) -> WindowAnswer;
 }

@@ -2,8 +2,8 @@
 -- what is proved of accepted calls holds of it. Over the contracts of the exported functions alone. Assumes nothing.
 use Prim.Native.Nat.{ℕ}
 use mathlib.Core.Path.{_≡_, refl, ap, sym, _∙_}
-use mathlib.Core.Bool.{cond}
-use mathlib.Core.List.{List}
+use mathlib.Core.Bool.{Bool, true, false, cond}
+use mathlib.Core.List.{List, [], _∷_, _++_}
 use native.Mathlib.Omega.{arith}
 use lib.IntN.{ℤ, pos}
 use lib.ListN.{length}
@@ -22,6 +22,13 @@ use Rattle.filter.specs.declared.FilterAnswer.the-variants.{Filtered}
 use Rattle.filter.specs.Calls.{filterRules, filterDue, FilterCall, SameRows}
 use Rattle.filter.proofs.Order.{filter-numbered}
 use Rattle.filter.proofs.Demand3.{same-rows}
+use Rattle.cycle.specs.Silence.{isReading}
+use Rattle.live.specs.declared.LiveWindow.{LiveWindow}
+use Rattle.live.specs.declared.FreshAnswer.the-variants.{Fresh}
+use Rattle.live.specs.Window.{LiveResult, resultAfter}
+use Rattle.live.specs.Calls.{windowRules, freshDue, Live, FreshCall}
+use Rattle.live.proofs.Order.{window-numbered}
+use Rattle.live.proofs.Pushes.{accepted-told, accepted-live, refused-told}
 use Rattle.record_format.specs.Record.{recordLength, writeRules, writeDue}
 use Rattle.record_format.specs.Reading.{shapeIn, readRules, readDue}
 use Rattle.record_format.proofs.Order.{write-numbered, read-numbered}
@@ -31,8 +38,9 @@ use Rattle.record.specs.Calls.{ReadCall, WriteCall}
 use Rattle.circle_median.specs.declared.answers.Answer.{Answer}
 use Rattle.circle_median.specs.declared.answers.ValueAnswer.{ValueAnswer}
 use Rattle.circle_median.specs.declared.answers.RecordAnswer.{RecordAnswer}
-use Rattle.circle_median.specs.Answers.{answerOf, valueOf, recordOf, natural, flag}
-use Rattle.circle_median.specs.Calls.{ExportedFilterCall, ExportedWriteCall, ExportedReadCall}
+use Rattle.circle_median.specs.declared.answers.WindowAnswer.{WindowAnswer}
+use Rattle.circle_median.specs.Answers.{answerOf, valueOf, recordOf, natural, flag, liveValue, lived}
+use Rattle.circle_median.specs.Calls.{ExportedFilterCall, ExportedWriteCall, ExportedReadCall, ExportedFreshCall, ExportedPushCall}
 
 -- The law, of any answer that tells a refusal's number: where no rule has the number 0, an answer with the number 0 tells an accepted call.
 module _ {A B : Type 0} (tell : Outcome A → B) (number : B → ℕ) (tells : (n k : ℕ) → number (tell (refused n k)) ≡ n) (v : A) (rs : List Rule)
@@ -107,3 +115,28 @@ read-zero {bytes} {buffer} call zero =
     let rs = readRules bytes (length buffer) in
     let said = zero-accepted recordOf (λ a. a .number) (λ n k. refl) (shapeIn bytes) rs (read-numbered bytes (length buffer)) (call .answer) zero in
     (record { answer = sym said; memory = call .memory }, call .answer ∙ ap recordOf said)
+
+-- a live window made fresh with the number 0 is one of ours
+pub window-fresh-zero : {c t : ℕ} {w : LiveWindow} {r : Answer} {w₁ : LiveWindow} → ExportedFreshCall c t w r w₁ → r .number ≡ 0 → FreshCall c t w Fresh w₁
+unfolding freshDue
+window-fresh-zero {c} {t} call zero =
+    let said = zero-accepted answerOf (λ a. a .number) (λ n k. refl) tt (windowRules c t) (window-numbered c t) (call .answer) zero in
+    record { answer = sym said; window = rw said at (call .window) }
+
+-- a push into a window of ours that answers 0 was accepted: its value is that of the longer history, of which the window is live
+module _ {c t : ℕ} {history : List ℕ} {w : LiveWindow} {x : ℕ} {r : WindowAnswer} {w₁ : LiveWindow} (live : Live c t history w)
+    (call : ExportedPushCall w x r w₁) (zero : r .number ≡ 0) where
+  reads : isReading c x ≡ true
+  reads = go (isReading c x) refl
+    where
+      go : (b : Bool) → isReading c x ≡ b → isReading c x ≡ true
+      go true e = e
+      go false e =
+          let told : r .number ≡ 9 = ap (λ (a : WindowAnswer). a .number) (call .answer) ∙ ap (λ (o : Outcome LiveResult). valueOf (lived o) .number) (refused-told live (call .call) e) in
+          absurd (omega arith)
+
+  pub window-push-zero : (r .value ≡ liveValue (resultAfter c t (history ++ (x ∷ [])))) × Live c t (history ++ (x ∷ [])) w₁
+  window-push-zero = (
+    ap (λ (a : WindowAnswer). a .value) (call .answer) ∙ ap (λ (o : Outcome LiveResult). valueOf (lived o) .value) (accepted-told live (call .call) reads),
+    accepted-live live (call .call) reads,
+  )

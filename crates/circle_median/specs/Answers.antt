@@ -2,16 +2,20 @@
 -- and 0 for everything else.
 use Prim.Native.Nat.{ℕ, _^_, _<_}
 use mathlib.Core.Bool.{Bool, cond}
-use lib.IntN.{ℤ, pos}
+use lib.IntN.{ℤ, pos, negsuc}
 use lib.Signed.{mag}
 use Rattle.refusal.specs.Outcome.{Outcome}
 use Rattle.refusal.specs.Outcome.Outcome.{accepted, refused}
+use Rattle.cycle.specs.Silence.{silent}
 use Rattle.cycle.specs.declared.SignedAnswer.{SignedAnswer}
 use Rattle.cycle.specs.declared.SignedAnswer.the-variants.{Signed, Refused}
 use Rattle.shape.specs.declared.Shape.{Shape}
+use Rattle.live.specs.Window.{LiveResult}
+use Rattle.live.specs.Window.LiveResult.{filling, phase-is, none-heard}
 use Rattle.circle_median.specs.declared.answers.Answer.{Answer}
 use Rattle.circle_median.specs.declared.answers.ValueAnswer.{ValueAnswer}
 use Rattle.circle_median.specs.declared.answers.RecordAnswer.{RecordAnswer}
+use Rattle.circle_median.specs.declared.answers.WindowAnswer.{WindowAnswer}
 
 -- the five numbers C, M, N, R and T as a shape
 abbrev pub shapeOf : ℕ → ℕ → ℕ → ℕ → ℕ → Shape
@@ -54,3 +58,17 @@ natural (refused n k) = refused n k
 abbrev pub flag : Outcome Bool → Outcome ℤ
 flag (accepted b) = accepted (cond b (pos 1) (pos 0))
 flag (refused n k) = refused n k
+
+-- what a live window answers, as a value: the phase, 65,535 if none is heard, -1 while it fills
+abbrev pub liveValue : LiveResult → ℤ
+liveValue filling = negsuc 0
+liveValue (phase-is p) = pos p
+liveValue none-heard = pos silent
+
+abbrev pub lived : Outcome LiveResult → Outcome ℤ
+lived (accepted v) = accepted (liveValue v)
+lived (refused n k) = refused n k
+
+-- an answer with a value, and the count of readings that a push leaves
+abbrev pub windowAnswerOf : ValueAnswer → ℕ → WindowAnswer
+windowAnswerOf a filled = record { number = a .number; place = a .place; value = a .value; filled = filled }

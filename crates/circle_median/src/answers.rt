@@ -1,6 +1,9 @@
 // The structs that C sees, and what the calls take and answer turned into theirs.
+use cycle::SILENT;
 use cycle::SignedAnswer;
 use filter::FilterAnswer;
+use live::FreshAnswer;
+use live::LiveAnswer;
 use refusal::Refusal;
 use shape::Shape;
 ghost use mathlib.Core.Path.{_≡_};
@@ -8,7 +11,8 @@ ghost use Rattle.refusal.specs.Outcome.{refusal};
 ghost use Rattle.refusal.specs.Outcome.Outcome.{accepted};
 ghost use Rattle.cycle.specs.Calls.{signedOutcome};
 ghost use Rattle.filter.specs.Calls.{filterOutcome};
-ghost use Rattle.circle_median.specs.Answers.{shapeOf, answerOf, valueOf, Narrow, recordOf};
+ghost use Rattle.live.specs.Calls.{freshOutcome, liveTold};
+ghost use Rattle.circle_median.specs.Answers.{shapeOf, answerOf, valueOf, Narrow, recordOf, lived, windowAnswerOf};
 
 // Number 0 means accepted; any other is a refusal's, with its place.
 #[repr(C)]
@@ -35,6 +39,16 @@ pub struct RecordAnswer {
     pub columns: u32,
     pub mask_rows: u32,
     pub mask_columns: u32,
+}
+
+// An answer of a live window: the value is the phase, 65,535 if none is heard, -1 while the window fills, and 0 if the
+// reading was refused; and how many readings are there.
+#[repr(C)]
+pub struct WindowAnswer {
+    pub number: u32,
+    pub place: u64,
+    pub value: i64,
+    pub filled: u32,
 }
 
 // The paper's C, M, N, R and T as a shape.
@@ -93,6 +107,46 @@ pub fn filter_answer(answer: FilterAnswer) -> Answer
             number: refusal::number(f),
             place: refusal::place(f) as u64,
         },
+    }
+}
+
+pub fn fresh_answer(answer: FreshAnswer) -> Answer
+    ensures { λ r. ⌜ r ≡ answerOf (freshOutcome answer) ⌝ }
+{
+    match answer {
+        FreshAnswer::Fresh => Answer {
+            number: 0,
+            place: 0,
+        },
+        FreshAnswer::Refused(f) => Answer {
+            number: refusal::number(f),
+            place: refusal::place(f) as u64,
+        },
+    }
+}
+
+// Of a push into a live window.
+pub fn live_answer(answer: LiveAnswer) -> ValueAnswer
+    ensures { λ r. ⌜ r ≡ valueOf (lived (liveTold answer)) ⌝ }
+{
+    match answer {
+        LiveAnswer::Filling => value_answer(-1),
+        LiveAnswer::Phase(p) => value_answer(p as i64),
+        LiveAnswer::Silent => value_answer(SILENT as i64),
+        LiveAnswer::Refused(f) => refused_value(f),
+    }
+}
+
+// The same, with the count of readings.
+pub fn window_answer(answer: LiveAnswer, filled: u32) -> WindowAnswer
+    ensures { λ r. ⌜ r ≡ windowAnswerOf (valueOf (lived (liveTold answer))) filled ⌝ }
+{
+    let told = live_answer(answer);
+    WindowAnswer {
+        number: told.number,
+        place: told.place,
+        value: told.value,
+        filled: filled,
     }
 }
 

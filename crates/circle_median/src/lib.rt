@@ -5,22 +5,27 @@ mod answers;
 use answers::Answer;
 use answers::RecordAnswer;
 use answers::ValueAnswer;
+use answers::WindowAnswer;
 use answers::filter_answer;
+use answers::fresh_answer;
 use answers::record_answer;
 use answers::refused_record;
 use answers::refused_value;
 use answers::shape_of;
 use answers::signed_answer;
 use answers::value_answer;
+use answers::window_answer;
 use cycle::DistanceAnswer;
 use cycle::SlotAnswer;
+use live::PLACES;
 use record::ReadAnswer;
 use record::WriteAnswer;
 ghost use mathlib.Core.Path.{_≡_};
 ghost use Rattle.cycle.specs.Calls.{distanceDue, stepDue, slotDue, driftDue};
 ghost use Rattle.filter.specs.declared.Engine.the-variants.{Level, Reading};
+ghost use Rattle.live.specs.Window.{windowOf};
 ghost use Rattle.circle_median.specs.Answers.{shapeOf, valueOf, natural, flag};
-ghost use Rattle.circle_median.specs.Calls.{ExportedFilterCall, ExportedWriteCall, ExportedReadCall};
+ghost use Rattle.circle_median.specs.Calls.{ExportedFilterCall, ExportedWriteCall, ExportedReadCall, ExportedFreshCall, ExportedPushCall};
 
 // The level engine: cycles up to 4,096, and C·(N + 1) numbers of work memory.
 #[no_mangle]
@@ -130,4 +135,34 @@ pub extern "C" fn circle_median_read(bytes: &[u8], readings: &mut [u16]) -> Reco
         ReadAnswer::Refused(f) => refused_record(f),
         ReadAnswer::Read(shape) => record_answer(shape),
     }
+}
+
+// Makes the arrays of a live window fresh.
+#[no_mangle]
+pub extern "C" fn circle_median_window_fresh(
+    cycle: u32,
+    length: u32,
+    readings: &mut [u16; PLACES],
+    sums: &mut [u16; PLACES],
+) -> Answer
+    ensures { λ r. ⌜ ExportedFreshCall cycle length (windowOf cycle length 0 (now (readings .entry)) (now (sums .entry))) r (windowOf cycle length 0 (now (readings .exit)) (now (sums .exit))) ⌝ }
+{
+    fresh_answer(live::fresh_in(cycle, length, readings, sums))
+}
+
+// Pushes a reading into the arrays of a live window.
+#[no_mangle]
+pub extern "C" fn circle_median_window_enter(
+    cycle: u32,
+    length: u32,
+    filled: u32,
+    reading: u16,
+    readings: &mut [u16; PLACES],
+    sums: &mut [u16; PLACES],
+) -> WindowAnswer
+    ensures { λ r. ⌜ ExportedPushCall (windowOf cycle length filled (now (readings .entry)) (now (sums .entry))) reading r (windowOf cycle length (r .filled) (now (readings .exit)) (now (sums .exit))) ⌝ }
+{
+    let entered = live::push_in(cycle, length, filled, reading, readings, sums);
+    let told = entered.told;
+    window_answer(told, entered.filled)
 }

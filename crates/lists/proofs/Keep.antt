@@ -2,7 +2,7 @@
 use Prim.Native.Nat.{ℕ, _+_, _≤_}
 use mathlib.Core.Path.{_≡_, refl, ap, subst, _∙_}
 use mathlib.Core.Bool.{Bool, true, false, cond}
-use mathlib.Core.Logic.{inl, inr}
+use mathlib.Core.Logic.{inl, inr, ⊎-elim}
 use mathlib.Core.List.{List, [], _∷_, _++_}
 use native.Mathlib.Omega.{arith}
 use lib.ListN.{length}
@@ -41,6 +41,14 @@ module _ {A : Type 0} (good : A → Bool) where
   in-keep y (x ∷ xs) g (inr i) =
       let r = in-keep y xs g i in
       case x (λ e. rw (keep-yes x xs e) (inr r)) (λ e. rw (keep-no x xs e) r)
+
+  -- and one that is kept is an element
+  pub keep-in : (y : A) (xs : List A) → In y (keep good xs) → In y xs
+  unfolding keep
+  keep-in y [] i = absurd i
+  keep-in y (x ∷ xs) i =
+      let r = keep-in y xs in
+      case x (λ e. ⊎-elim inl (λ j. inr (r j)) (rw (keep-yes x xs e) at i)) (λ e. inr (r (rw (keep-no x xs e) at i)))
 
   -- what holds of each element that passes holds of each that is kept
   pub each-keep : (P : A → Type 0) (xs : List A) → Each (λ x. good x ≡ true → P x) xs → Each P (keep good xs)

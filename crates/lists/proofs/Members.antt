@@ -1,11 +1,11 @@
 -- Laws of `In` and `Each`. Assumes nothing.
-use Prim.Native.Nat.{ℕ, _<_}
-use mathlib.Core.Path.{_≡_, subst, sym}
+use Prim.Native.Nat.{ℕ, zero, suc, _<_}
+use mathlib.Core.Path.{_≡_, refl, subst, sym}
 use mathlib.Core.Logic.{_⊎_, inl, inr, ⊎-elim}
 use mathlib.Core.List.{List, [], _∷_, _++_}
 use native.Mathlib.Omega.{arith}
 use native.Mathlib.Decide.{ℕ-discrete}
-use lib.ListN.{length}
+use lib.ListN.{length, getD}
 use Rattle.lists.specs.Members.{In, Each}
 
 -- what holds of each element holds of the one at hand
@@ -13,6 +13,18 @@ pub each-in : {A : Type 0} (P : A → Type 0) (y : A) (xs : List A) → Each P x
 each-in P y [] e i = absurd i
 each-in P y (x ∷ xs) e (inl i) = subst P (sym i) (e .0)
 each-in P y (x ∷ xs) e (inr i) = each-in P y xs (e .1) i
+
+-- and of the one at a place, or of what stands for a place outside
+pub each-getD : {A : Type 0} (P : A → Type 0) (xs : List A) (k : ℕ) {d : A} → Each P xs → P d → P (getD xs k d)
+each-getD P [] k e p = p
+each-getD P (x ∷ xs) zero e p = e .0
+each-getD P (x ∷ xs) (suc k) e p = each-getD P xs k (e .1) p
+
+-- at a place of the list, what stands for a place outside makes no difference
+pub getD-any : {A : Type 0} (xs : List A) (k : ℕ) (d e : A) → k < length xs → getD xs k d ≡ getD xs k e
+getD-any [] k d e h = absurd (omega arith)
+getD-any (x ∷ xs) zero d e h = refl
+getD-any (x ∷ xs) (suc k) d e h = getD-any xs k d e (omega arith)
 
 pub each-append : {A : Type 0} (P : A → Type 0) (xs ys : List A) → Each P xs → Each P ys → Each P (xs ++ ys)
 each-append P [] ys e f = f

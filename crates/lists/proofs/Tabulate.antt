@@ -1,12 +1,13 @@
 -- Laws of `tabulate`. Assumes nothing.
-use Prim.Native.Nat.{ℕ, zero, suc, _+_, _≤_, _<_}
+use Prim.Native.Nat.{ℕ, zero, suc, _+_, _-_, _≤_, _<_}
 use mathlib.Core.Path.{_≡_, refl, ap, sym, _∙_}
 use mathlib.Core.Logic.{inl, inr}
 use mathlib.Core.List.{List, _∷_, _++_}
 use native.Mathlib.Omega.{arith}
 use native.Mathlib.Decide.{ℕ-discrete}
 use native.Mathlib.Nat.{add-zero, zero-add, suc-add, add-suc}
-use lib.ListN.{length, getD}
+use lib.ListN.{length, getD, take}
+use lib.Seq.{take-at}
 use Rattle.lists.specs.Members.{In, Each}
 use Rattle.lists.specs.Tabulate.{tabulate}
 
@@ -24,6 +25,13 @@ module _ {A : Type 0} (f : ℕ → A) where
   tabulate-append a zero n = rw (add-zero, zero-add)
   tabulate-append a (suc m) n =
       rw (suc-add m n, add-suc a m, ← (suc-add a m)) (ap (λ (l : List A). f a ∷ l) (tabulate-append (suc a) m n))
+
+  -- the front of it
+  pub take-tabulate : (a m n : ℕ) → m ≤ n → take m (tabulate f a n) ≡ tabulate f a m
+  take-tabulate a m n h =
+      let whole : n ≡ m + (n - m) = omega arith in
+      ap (λ (l : ℕ). take m (tabulate f a l)) whole ∙ ap (take m) (sym (tabulate-append a m (n - m)))
+      ∙ take-at (tabulate f a m) (tabulate f (a + m) (n - m)) m (length-tabulate a m)
 
 -- only the values count
 pub tabulate-cong : {A : Type 0} (f g : ℕ → A) (a b n : ℕ) → ((k : ℕ) → k < n → f (a + k) ≡ g (b + k)) → tabulate f a n ≡ tabulate g b n
@@ -46,6 +54,12 @@ in-tabulate f a (suc n) k h g = go (ℕ-discrete k a) (in-tabulate f (suc a) n k
     go : Dec (k ≡ a) → (suc a ≤ k → k < suc a + n → In (f k) (tabulate f (suc a) n)) → In (f k) (tabulate f a (suc n))
     go (yes e) r = inl (ap f e)
     go (no e) r = inr (r (omega arith) (omega arith))
+
+-- and each element a value
+pub in-place : {A : Type 0} (f : ℕ → A) (a n : ℕ) {y : A} → In y (tabulate f a n) → (k : ℕ) × (k < n) × (y ≡ f (a + k))
+in-place f a zero i = absurd i
+in-place f a (suc n) (inl e) = (0, omega arith, e ∙ ap f (sym (add-zero a)))
+in-place f a (suc n) (inr i) = let r = in-place f (suc a) n i in (suc (r .0), omega (arith, r .1), r .2 ∙ ap f (omega arith))
 
 -- the numbers from a on: k is one of them if it lies between
 pub in-range : (a n k : ℕ) → a ≤ k → k < a + n → In k (tabulate (λ i. i) a n)

@@ -1,9 +1,10 @@
 -- Laws of totals, for numbers of any kind: lists that follow each other, one element on, one list down. Assumes nothing.
-use Prim.Native.Nat.{ℕ, zero, suc, _+_, _≤_, _<_}
+use Prim.Native.Nat.{ℕ, zero, suc, _+_, _*_, _≤_, _<_}
 use mathlib.Core.Path.{_≡_, refl, ap, sym, _∙_}
 use mathlib.Core.List.{List, [], _∷_, _++_}
 use native.Mathlib.Omega.{arith}
 use native.Mathlib.Numerals.{add-one}
+use lib.ListN.{length}
 use Rattle.lists.specs.Tabulate.{tabulate}
 use Rattle.lists.specs.Joined.{joined}
 use Rattle.lists.specs.Total.{total, totalFrom}
@@ -19,6 +20,12 @@ module _ {A : Type 0} (f : A → ℕ) where
   unfolding total
   total-append [] ys = omega arith
   total-append (x ∷ xs) ys = omega (arith, total-append xs ys)
+
+  -- a total is at most the most for each element
+  pub total-most : (m : ℕ) (xs : List A) → ((x : A) → f x ≤ m) → total f xs ≤ length xs * m
+  unfolding total
+  total-most m [] h = omega arith
+  total-most m (x ∷ xs) h = omega (arith, h x, total-most m xs h)
 
   module _ (y : ℕ → A) where
     pub total-split : (a m n : ℕ) → total f (tabulate y a (m + n)) ≡ total f (tabulate y a m) + total f (tabulate y (a + m) n)

@@ -74,7 +74,7 @@ pub fn swap(work: &mut [u32], base: usize, table: &[u32], entering: usize, leavi
 }
 
 // The lesser of two numbers, compared as signed ones, which takes fewer packed instructions.
-fn lower(a: u32, b: u32) -> u32
+pub fn lower(a: u32, b: u32) -> u32
     requires { ⌜ (a < 2 ^ 31) × (b < 2 ^ 31) ⌝ }
     ensures { λ r. ⌜ r ≡ min a b ⌝ }
 {

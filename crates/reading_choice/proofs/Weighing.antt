@@ -32,7 +32,7 @@ in-more y x (z ∷ zs) (inr i) = wider (in-more y x zs i)
     wider (inr e) = inr e
 
 -- a lower sum outweighs every rank
-outweighed : (s b x m : ℕ) → s < b → x ≤ m → s * m + x ≤ b * m
+pub outweighed : (s b x m : ℕ) → s < b → x ≤ m → s * m + x ≤ b * m
 outweighed s b x m h g = omega (arith, mul-le-mul-right m h)
 
 module _ {c a : ℕ} {sum : ℕ → ℕ} {zs : List ℕ} {b o : ℕ} (w : Weighed c a sum zs b o) (ha : a < c) where

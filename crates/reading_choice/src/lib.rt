@@ -45,7 +45,7 @@ fn differ(d: u16, e: u16) -> u16
 }
 
 // The rank of q in the order from the centre a.
-fn rank_of(cycle: u16, a: u16, q: u16) -> u16
+pub fn rank_of(cycle: u16, a: u16, q: u16) -> u16
     ensures { λ r. ⌜ r ≡ rankOf cycle a q ⌝ }
 {
     let e = way_to(cycle, a, q);
@@ -182,7 +182,7 @@ fn unless_silent(centre: u16, tick: u16) -> u16
 
 // The phase by the centre and the rank that is kept. Where the centre is silent, so that nothing stands in for
 // it, none is heard. The tick is found in either case, so that the loop over phases has no branch.
-fn phase_by(cycle: u32, centre: u16, rank: u32) -> u16
+pub fn phase_by(cycle: u32, centre: u16, rank: u32) -> u16
     requires { ⌜ (isReading cycle centre ≡ true) × (0 < cycle) × (rank ≤ cycle) × (cycle ≤ longestCycle) ⌝ }
     ensures { λ r. ⌜ r ≡ phaseBy cycle centre rank ⌝ }
 {

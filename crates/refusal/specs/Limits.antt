@@ -23,6 +23,13 @@ mostMaskRows = 255
 abbrev pub mostMaskColumns : ℕ
 mostMaskColumns = 255
 
+-- ticks in the cycle of a live window, and readings that it holds (document 02, T-03): "C from 1 to 512 and T odd from 1 to 63"
+abbrev pub liveCycle : ℕ
+liveCycle = 512
+
+abbrev pub liveLength : ℕ
+liveLength = 63
+
 -- bytes of a record that the bench sheet takes: 14 is a "record above 16,384 bytes"
 abbrev pub mostBytes : ℕ
 mostBytes = 16384

@@ -38,7 +38,7 @@ pub fn size_verdict(rows: u32, columns: u32) -> Verdict
 }
 
 // Test 3, on one side.
-fn side_verdict(side: u32, most: u32) -> Verdict
+pub fn side_verdict(side: u32, most: u32) -> Verdict
     ensures { λ r. ⌜ verdict r ≡ firstDue (sideRules most side) tt ⌝ }
 {
     if side % 2 == 0 {

@@ -2,7 +2,7 @@
 
 use std::mem::{align_of, offset_of, size_of};
 
-use circle_median::sys::{Answer, RecordAnswer, ValueAnswer};
+use circle_median::sys::{Answer, RecordAnswer, ValueAnswer, WindowAnswer};
 
 #[test]
 fn answer() {
@@ -24,4 +24,11 @@ fn record_answer() {
     assert_eq!((offset_of!(RecordAnswer, cycle), offset_of!(RecordAnswer, rows)), (16, 20));
     assert_eq!(offset_of!(RecordAnswer, columns), 24);
     assert_eq!((offset_of!(RecordAnswer, mask_rows), offset_of!(RecordAnswer, mask_columns)), (28, 32));
+}
+
+#[test]
+fn window_answer() {
+    assert_eq!((size_of::<WindowAnswer>(), align_of::<WindowAnswer>()), (32, 8));
+    assert_eq!((offset_of!(WindowAnswer, number), offset_of!(WindowAnswer, place)), (0, 8));
+    assert_eq!((offset_of!(WindowAnswer, value), offset_of!(WindowAnswer, filled)), (16, 24));
 }

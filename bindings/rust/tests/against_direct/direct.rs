@@ -2,10 +2,12 @@
 //! test made in its order. The functions have the signatures of the library's safe ones, and do to lent memory what
 //! those should do.
 
+use std::array;
 use std::collections::BTreeMap;
+use std::iter;
 use std::ops::Range;
 
-use circle_median::{Engine, Refusal, Shape, SILENT};
+use circle_median::{Engine, Live, Refusal, Shape, SILENT};
 
 type Answer<T> = Result<T, Refusal>;
 
@@ -194,6 +196,59 @@ pub fn filter(
     write_rows(shape, rows, input, output);
     work[..need(engine, shape)].fill(0);
     Ok(())
+}
+
+// The live window.
+
+/// All readings that were accepted since the window was fresh.
+#[derive(Debug)]
+pub struct LiveWindow {
+    cycle: u32,
+    length: u32,
+    accepted: Vec<u16>,
+}
+
+impl LiveWindow {
+    pub fn new(cycle: u32, length: u32) -> Answer<Self> {
+        test_cycle(cycle, 512)?;
+        refuse_if(length % 2 == 0 || length > 63, 3)?;
+        Ok(LiveWindow { cycle, length, accepted: Vec::new() })
+    }
+
+    pub fn push(&mut self, reading: u16) -> Answer<Live> {
+        test_readings(self.cycle, &[reading])?;
+        self.accepted.push(reading);
+        if self.accepted.len() < self.length as usize {
+            return Ok(Live::Filling);
+        }
+        let last = self.last();
+        Ok(match phase(self.cycle, &last, last[last.len() / 2]) {
+            SILENT => Live::Silent,
+            phase => Live::Phase(phase),
+        })
+    }
+
+    pub fn reset(&mut self) {
+        self.accepted.clear();
+    }
+
+    /// The last readings, oldest first, as many as the window is long; silent ones stand for those before the first.
+    fn last(&self) -> Vec<u16> {
+        let newest_first = self.accepted.iter().rev().copied().chain(iter::repeat(SILENT));
+        let mut last: Vec<u16> = newest_first.take(self.length as usize).collect();
+        last.reverse();
+        last
+    }
+
+    /// What is stored: how many of the last readings are there, and each with its sum; behind them there is silence.
+    pub fn stored(&self) -> (u32, [u16; 63], [u16; 63]) {
+        let last = self.last();
+        let heard = heard(&last);
+        let sum = |tick: u16| heard.iter().map(|&q| apart(self.cycle.into(), tick.into(), q.into()) as u16).sum();
+        let readings = array::from_fn(|at| last.get(at).copied().unwrap_or(SILENT));
+        let sums = readings.map(|reading| if reading == SILENT { 0 } else { sum(reading) });
+        (self.length.min(self.accepted.len() as u32), readings, sums)
+    }
 }
 
 // The record.

@@ -1,7 +1,8 @@
 //! The papers' own examples, with the answers that they print, and the mistakes that they warn of.
 
 use circle_median::Engine::{Level, Reading};
-use circle_median::{distance, drift, filter, read, slot, step, work_len, write, Engine, Refusal, Shape, SILENT};
+use circle_median::{distance, drift, filter, read, slot, step, work_len, write};
+use circle_median::{Engine, Live, LiveWindow, Refusal, Shape, SILENT};
 
 const NONE: Refusal = Refusal { number: 0, place: 0 };
 
@@ -150,6 +151,42 @@ fn refused_records() {
     assert_eq!(call(&[1, 0, 3, 0, 8, 0]), (12, 0));
     assert_eq!(call(&bytes), (13, 35));
     assert_eq!(call(&bytes[..35]), (0, 0));
+}
+
+/// The paper's row wake by wake, a row with silent readings, and a window of one, which never fills.
+#[test]
+fn live_rows() {
+    const S: u16 = SILENT;
+    use Live::{Filling, Phase, Silent};
+    let answers = |cycle, length, row: &[u16]| {
+        let mut window = LiveWindow::new(cycle, length).unwrap();
+        row.iter().map(|&reading| window.push(reading).unwrap()).collect::<Vec<_>>()
+    };
+    assert_eq!(answers(8, 3, &[1, 4, 1, 7, 7]), [Filling, Filling, Phase(1), Phase(1), Phase(7)]);
+    assert_eq!(answers(8, 3, &[S, S, S, 3, S]), [Filling, Filling, Silent, Phase(3), Phase(3)]);
+    assert_eq!(answers(16, 5, &[15, 1, S, 8, 8])[4], Phase(8));
+    assert_eq!(answers(1, 1, &[0, S, 0]), [Phase(0), Silent, Phase(0)]);
+    assert_eq!(answers(512, 63, &[511; 64])[61..], [Filling, Phase(511), Phase(511)]);
+}
+
+/// A refused reading does not count towards filling, and a reset makes a window fresh whatever it holds.
+#[test]
+fn refused_and_reset_windows() {
+    let mut window = LiveWindow::new(8, 3).unwrap();
+    assert_eq!((window.cycle(), window.length()), (8, 3));
+    assert_eq!((window.push(1), window.push(4)), (Ok(Live::Filling), Ok(Live::Filling)));
+    let before = window.clone();
+    assert_eq!([8, 512, 65_534].map(|reading| refused(window.push(reading))), [(9, 0); 3]);
+    assert_eq!(window, before);
+    assert_eq!(window.push(1), Ok(Live::Phase(1)));
+    window.reset();
+    assert_eq!(Ok(&window), LiveWindow::new(8, 3).as_ref());
+    assert_eq!([1, 4, 1].map(|reading| window.push(reading).unwrap())[1..], [Live::Filling, Live::Phase(1)]);
+
+    let new = |cycle, length| refused(LiveWindow::new(cycle, length));
+    assert_eq!([new(512, 63), new(1, 1)], [(0, 0); 2]);
+    assert_eq!([new(0, 3), new(513, 3), new(0, 2), new(513, 65)], [(1, 0); 4]);
+    assert_eq!([new(8, 0), new(8, 2), new(8, 64), new(8, 65)], [(3, 0); 4]);
 }
 
 /// What a refusal says: its number, its place if it has one, and why.

@@ -26,7 +26,7 @@ impl Element for u32 {
     }
 }
 
-#[derive(Clone)]
+#[derive(Clone, Debug)]
 pub struct Lent<T> {
     all: Vec<T>,
     start: usize,

@@ -11,6 +11,7 @@ mod filter;
 mod filter_call;
 mod images;
 mod lent;
+mod live;
 mod parallel;
 mod random;
 mod record;

@@ -1,0 +1,9 @@
+pub mod Latest
+pub mod Sliding
+pub mod Arrays
+pub mod Settled
+pub mod Closest
+pub mod Calls
+pub mod Order
+pub mod Pushes
+pub mod Row

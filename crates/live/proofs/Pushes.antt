@@ -1,0 +1,89 @@
+-- Any number of pushes into a window of ours: after them it holds the readings that were accepted, and each was answered by those before it.
+-- Over the contracts of the calls alone. Assumes nothing.
+use Prim.Native.Nat.{ℕ, zero, suc, _+_, _<_}
+use mathlib.Core.Path.{_≡_, refl, ap, sym, _∙_}
+use mathlib.Core.Bool.{Bool, true, false}
+use mathlib.Core.List.{List, [], _∷_, _++_, append-assoc, append-nil}
+use native.Mathlib.Omega.{arith}
+use lib.ListN.{length, getD, take}
+use Rattle.lists.specs.Members.{Each}
+use Rattle.lists.specs.Keep.{keep}
+use Rattle.lists.proofs.Members.{each-append}
+use Rattle.lists.proofs.Keep.{keep-yes, keep-no}
+use Rattle.refusal.specs.Outcome.{Outcome, firstDue, Clear, after}
+use Rattle.refusal.specs.Outcome.Outcome.{accepted, refused}
+use Rattle.refusal.proofs.Outcome.{accepted-clear, clear-accepted, after-clear, clear-join}
+use Rattle.cycle.specs.Silence.{isReading}
+use Rattle.live.specs.declared.LiveWindow.{LiveWindow}
+use Rattle.live.specs.declared.FreshAnswer.the-variants as made
+use Rattle.live.specs.declared.LiveAnswer.{LiveAnswer}
+use Rattle.live.specs.Window.{LiveResult, resultAfter, liveAfter}
+use Rattle.live.specs.Calls.{windowRules, newestRule, pushRules, freshDue, pushDue, liveTold, Live, FreshCall, PushCall}
+use Rattle.live.specs.Pushes.{Pushes}
+use Rattle.live.specs.Pushes.Pushes.{done, next}
+
+-- a new window that was accepted is one of ours, with nothing pushed
+pub fresh-live : {c t : ℕ} {old w : LiveWindow} → FreshCall c t old made.Fresh w → Live c t [] w
+unfolding freshDue
+fresh-live {c} {t} call = record { tested = accepted-clear tt (windowRules c t) tt (sym (call .answer)); readings = tt; is = call .window }
+
+-- what is due to a reading, and to what is none
+module _ (c t : ℕ) (history : List ℕ) (x : ℕ) (tested : Clear (windowRules c t)) where
+  pub due-accepted : isReading c x ≡ true → pushDue c t history x ≡ accepted (resultAfter c t (history ++ (x ∷ [])))
+  unfolding pushDue
+  due-accepted reads =
+      clear-accepted (resultAfter c t (history ++ (x ∷ []))) (pushRules c t x) (clear-join (windowRules c t) (newestRule c x ∷ []) tested (rw reads, tt))
+
+  pub due-refused : isReading c x ≡ false → pushDue c t history x ≡ refused 9 0
+  unfolding pushDue firstDue
+  due-refused none = after-clear (resultAfter c t (history ++ (x ∷ []))) (windowRules c t) (newestRule c x ∷ []) tested ∙ rw none
+
+module _ {c t : ℕ} {history : List ℕ} {w : LiveWindow} {x : ℕ} {r : LiveAnswer} {w₁ : LiveWindow} (l : Live c t history w) (call : PushCall w x r w₁) where
+  -- a reading is accepted, and the window is one of ours again
+  module _ (reads : isReading c x ≡ true) where
+    pub accepted-told : liveTold r ≡ accepted (resultAfter c t (history ++ (x ∷ [])))
+    accepted-told = call .answer c t history l ∙ due-accepted c t history x (l .tested) reads
+
+    pub accepted-live : Live c t (history ++ (x ∷ [])) w₁
+    accepted-live = record {
+      tested = l .tested;
+      readings = each-append (λ z. isReading c z ≡ true) history (x ∷ []) (l .readings) (reads, tt);
+      is = call .window c t history l ∙ ap (λ (o : Outcome LiveResult). after o (λ u. liveAfter c t (history ++ (x ∷ []))) w) accepted-told;
+    }
+
+  -- what is no reading is refused by 9 at place 0, and the window is as it was
+  module _ (no-reading : isReading c x ≡ false) where
+    pub refused-told : liveTold r ≡ refused 9 0
+    refused-told = call .answer c t history l ∙ due-refused c t history x (l .tested) no-reading
+
+    pub refused-kept : w₁ ≡ w
+    refused-kept = call .window c t history l ∙ ap (λ (o : Outcome LiveResult). after o (λ u. liveAfter c t (history ++ (x ∷ []))) w) refused-told
+
+reading-or-not : {C : Type 0} (c x : ℕ) → (isReading c x ≡ true → C) → (isReading c x ≡ false → C) → C
+reading-or-not {C} c x t f = go (isReading c x) refl
+  where
+    go : (b : Bool) → isReading c x ≡ b → C
+    go true e = t e
+    go false e = f e
+
+-- the window after any pushes
+pub pushes-live : {c t : ℕ} {history : List ℕ} {w w₁ : LiveWindow} {xs : List ℕ} {rs : List LiveAnswer} → Live c t history w → Pushes w xs rs w₁
+    → Live c t (history ++ keep (isReading c) xs) w₁
+unfolding keep
+pushes-live {history = history} l done = rw (append-nil history) l
+pushes-live {c} {t} {history} {w} {w₁} l (next {x = x} {xs = xs} call rest) =
+    reading-or-not c x
+    (λ e. rw (e, ← (append-assoc history (x ∷ []) (keep (isReading c) xs))) (pushes-live (accepted-live l call e) rest))
+    (λ e. rw e (pushes-live (rw (sym (refused-kept l call e)) at l) rest))
+
+-- the answer to each: what is due after those before it that were accepted
+pub pushes-told : {c t : ℕ} {history : List ℕ} {w w₁ : LiveWindow} {xs : List ℕ} {rs : List LiveAnswer} → Live c t history w → Pushes w xs rs w₁
+    → (k : ℕ) (d : LiveAnswer) → k < length xs
+    → liveTold (getD rs k d) ≡ pushDue c t (history ++ keep (isReading c) (take k xs)) (getD xs k 0)
+unfolding keep
+pushes-told l done k d h = absurd (omega arith)
+pushes-told {c} {t} {history} l (next {x = x} call rest) zero d h = call .answer c t history l ∙ ap (λ (p : List ℕ). pushDue c t p x) (sym (append-nil history))
+pushes-told {c} {t} {history} l (next {x = x} {xs = xs} call rest) (suc k) d h =
+    reading-or-not c x
+    (λ e. rw (e, ← (append-assoc history (x ∷ []) (keep (isReading c) (take k xs)))) (pushes-told (accepted-live l call e) rest k d (omega arith)))
+    (λ e. rw e (pushes-told (rw (sym (refused-kept l call e)) at l) rest k d (omega arith)))

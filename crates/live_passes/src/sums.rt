@@ -1,0 +1,44 @@
+// The running sums of a live window. Internal: the tests are the caller's.
+use cycle::apart;
+use std::num::wrapping_add_u16;
+use std::num::wrapping_sub_u16;
+ghost use mathlib.Core.Path.{_≡_};
+ghost use Prim.Native.Nat.{_≤_, _<_};
+ghost use lib.ListN.{length};
+ghost use Rattle.memory.specs.Memory.{Changed};
+ghost use Rattle.live_passes.specs.Passes.{behind, slid, gainedBy, enteredReading, enteredSum};
+
+// Moves the readings behind the oldest to the front, each with its sum: the distance to the newest added, that
+// to the oldest taken off. What the newest adds to them all is its own sum. One pass without a branch.
+fn slide(cycle: u16, newest: u16, last: usize, readings: &mut [u16], sums: &mut [u16]) -> u16
+    requires { ⌜ (last < length (now readings)) × (last < length (now sums)) ⌝ }
+    ensures { λ _. ⌜ Changed (now (readings .entry)) (now (readings .exit)) 0 last (behind (now (readings .entry))) ⌝ }
+    ensures { λ _. ⌜ Changed (now (sums .entry)) (now (sums .exit)) 0 last (slid cycle newest (now (readings .entry)) (now (sums .entry))) ⌝ }
+    ensures { λ r. ⌜ r ≡ gainedBy cycle newest (now (readings .entry)) last ⌝ }
+{
+    let oldest = readings[0];
+    let mut total = 0;
+    let mut k = 0;
+    while k < last {
+        let q = readings[k + 1];
+        let gain = apart(cycle, q, newest);
+        let more = wrapping_add_u16(sums[k + 1], gain);
+        sums[k] = wrapping_sub_u16(more, apart(cycle, q, oldest));
+        readings[k] = q;
+        total = wrapping_add_u16(total, gain);
+        k += 1;
+    }
+    total
+}
+
+// The newest reading enters a window of n, and the oldest leaves.
+pub fn enter(cycle: u16, newest: u16, n: usize, readings: &mut [u16], sums: &mut [u16])
+    requires { ⌜ (0 < n) × (n ≤ length (now readings)) × (n ≤ length (now sums)) ⌝ }
+    ensures { λ _. ⌜ Changed (now (readings .entry)) (now (readings .exit)) 0 n (enteredReading newest n (now (readings .entry))) ⌝ }
+    ensures { λ _. ⌜ Changed (now (sums .entry)) (now (sums .exit)) 0 n (enteredSum cycle newest n (now (readings .entry)) (now (sums .entry))) ⌝ }
+{
+    let last = n - 1;
+    let total = slide(cycle, newest, last, readings, sums);
+    readings[last] = newest;
+    sums[last] = total;
+}
