@@ -5,7 +5,6 @@ use mathlib.Core.Bool.{true}
 use mathlib.Core.List.{List, [], _∷_, _++_, append-nil}
 use native.Mathlib.Omega.{arith}
 use native.Mathlib.Decide.{decLt}
-use native.Mathlib.Nat.{zero-add}
 use borrow.Author.Tests.{lt-ltb, le-ltb}
 use lib.ListN.{length, getD, replicate, length-replicate, getD-replicate}
 use lib.Seq.{ext-getD}
@@ -20,7 +19,7 @@ use Rattle.memory.proofs.Memory.{changed-first}
 use Rattle.live.specs.Window.{latestOf, readingAt, sumOf}
 use Rattle.live_passes.specs.Passes.{enteredReading, enteredSum}
 use Rattle.live.proofs.Latest.{reading-place, reading-beyond, reading-next, reading-newest}
-use Rattle.live.proofs.Sliding.{place-holds, slid-live, gained-live}
+use Rattle.live.proofs.Sliding.{place-holds, slid-live, newest-live}
 
 -- an array that is one number throughout
 pub all-one : (v : ℕ) (f : ℕ → ℕ) → ((k : ℕ) → f k ≡ v) → replicate liveLength v ≡ tabulate f 0 liveLength
@@ -87,4 +86,4 @@ module _ (c t : ℕ) (history : List ℕ) (x : ℕ) (hc : c ≤ liveCycle) (some
       inside k h (yes l) = rw (lt-ltb k (t - 1) l) (slid-live c t history x hc some ht good reads k (omega arith))
       inside k h (no l) =
           let last : t - 1 ≡ k = omega arith in
-          rw (le-ltb k (t - 1) (omega arith)) (gained-live c t history x hc some ht good reads ∙ ap (sumOf c t (history ++ (x ∷ []))) last)
+          rw (le-ltb k (t - 1) (omega arith)) (newest-live c t history x hc some ht good reads ∙ ap (sumOf c t (history ++ (x ∷ []))) last)

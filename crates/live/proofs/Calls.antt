@@ -1,31 +1,31 @@
 -- Laws of the calls of the live window: what acceptance says, and that what the code does is what the calls promise. Assumes nothing.
 use Prim.Native.Nat.{ℕ, _+_, _*_, _%_, _≤_, _<_, min}
 use mathlib.Core.Path.{_≡_, refl, ap, sym, _∙_}
-use mathlib.Core.Bool.{Bool, true, false, cond}
+use mathlib.Core.Bool.{true, cond}
 use mathlib.Core.List.{List, [], _∷_, _++_}
 use native.Mathlib.Omega.{arith}
 use native.Mathlib.Decide.{decLt}
 use borrow.Author.Tests.{ltb-false, lt-ltb, le-ltb, eqb-false, not-false}
+use lib.Dec.{ltb}
 use lib.ListN.{length, replicate, length-append}
 use Rattle.lists.specs.Members.{Each}
 use Rattle.lists.specs.Tabulate.{tabulate}
 use Rattle.lists.proofs.Members.{each-append}
 use Rattle.refusal.specs.Limits.{liveCycle, liveLength}
-use Rattle.refusal.specs.Outcome.{Outcome, Rule, firstDue, Clear, verdict, andThen, after}
+use Rattle.refusal.specs.Outcome.{firstDue, Clear, verdict}
 use Rattle.refusal.specs.Outcome.Outcome.{accepted}
 use Rattle.refusal.specs.declared.Verdict.{Verdict}
 use Rattle.refusal.specs.declared.Verdict.the-variants.{Passed, Refused}
 use Rattle.refusal.specs.declared.Refusal.{Refusal}
 use Rattle.refusal.proofs.Outcome.{clear-accepted, clear-split, passed-clear, refused-alone}
-use Rattle.cycle.specs.Calls.{cycleRules}
 use Rattle.cycle.specs.Silence.{silent, isReading}
-use Rattle.shape.specs.Rules.{reach, sideRules}
+use Rattle.shape.specs.Rules.{reach}
 use Rattle.memory.specs.Memory.{Changed}
 use Rattle.live.specs.declared.LiveWindow.{LiveWindow}
 use Rattle.live.specs.declared.FreshAnswer.the-variants as made
 use Rattle.live.specs.declared.LiveAnswer.{LiveAnswer}
 use Rattle.live.specs.declared.LiveAnswer.the-variants as live
-use Rattle.live.specs.Window.{LiveResult, readingAt, sumOf, livePhase, resultOf, resultAfter, windowOf, liveAfter}
+use Rattle.live.specs.Window.{readingAt, sumOf, livePhase, resultOf, resultAfter, windowOf, liveAfter}
 use Rattle.live.specs.Window.LiveResult.{filling}
 use Rattle.live.specs.Calls.{windowRules, newestRule, pushRules, freshDue, pushDue, liveTold, Live, FreshCall, PushCall}
 use Rattle.live_passes.specs.Passes.{enteredReading, enteredSum, settled}
@@ -97,7 +97,7 @@ result-after : (c t n filled : ℕ) (history : List ℕ) → length history ≡ 
 unfolding resultAfter
 result-after c t n filled history len e = go (decLt n t)
   where
-    go : Dec (n < t) → resultBy t filled (livePhase c t history) ≡ cond (lib.Dec.ltb (length history) t) filling (resultOf (livePhase c t history))
+    go : Dec (n < t) → resultBy t filled (livePhase c t history) ≡ cond (ltb (length history) t) filling (resultOf (livePhase c t history))
     go (yes h) = rw (lt-ltb filled t (omega arith), lt-ltb (length history) t (omega arith))
     go (no h) = rw (le-ltb filled t (omega arith), le-ltb (length history) t (omega arith))
 

@@ -4,7 +4,7 @@ use mathlib.Core.Path.{_≡_, refl, ap, sym, _∙_}
 use mathlib.Core.Bool.{true}
 use mathlib.Core.List.{List, [], _∷_, _++_, append-assoc}
 use native.Mathlib.Omega.{arith}
-use lib.ListN.{length, getD, drop, replicate, length-append, length-drop, length-replicate, List·getD-append, List·getD-eq-default}
+use lib.ListN.{length, getD, replicate, length-append, length-drop, length-replicate, List·getD-append, List·getD-eq-default}
 use lib.Seq.{getD-at, getD-drop, ext-getD}
 use Rattle.lists.specs.Members.{In, Each}
 use Rattle.lists.specs.Tabulate.{tabulate}

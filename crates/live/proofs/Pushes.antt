@@ -6,10 +6,8 @@ use mathlib.Core.Bool.{Bool, true, false}
 use mathlib.Core.List.{List, [], _∷_, _++_, append-assoc, append-nil}
 use native.Mathlib.Omega.{arith}
 use lib.ListN.{length, getD, take}
-use Rattle.lists.specs.Members.{Each}
 use Rattle.lists.specs.Keep.{keep}
 use Rattle.lists.proofs.Members.{each-append}
-use Rattle.lists.proofs.Keep.{keep-yes, keep-no}
 use Rattle.refusal.specs.Outcome.{Outcome, firstDue, Clear, after}
 use Rattle.refusal.specs.Outcome.Outcome.{accepted, refused}
 use Rattle.refusal.proofs.Outcome.{accepted-clear, clear-accepted, after-clear, clear-join}

@@ -2,11 +2,11 @@
 -- output at column k - t with M = 1, R = 1": away from the edges the window of a spot is a stretch of the row, which nothing mirrors. Over
 -- the contracts of the calls alone, for either engine. Assumes nothing.
 use Prim.Native.Nat.{ℕ, _+_, _-_, _*_, _≤_, _<_}
-use mathlib.Core.Path.{_≡_, refl, ap, sym, _∙_}
+use mathlib.Core.Path.{_≡_, ap, sym, _∙_}
 use mathlib.Core.Bool.{true}
 use mathlib.Core.List.{List, [], _∷_, _++_, append-nil}
 use native.Mathlib.Omega.{arith}
-use native.Mathlib.Nat.{zero-mul, zero-add}
+use native.Mathlib.Nat.{zero-mul}
 use native.Mathlib.Numerals.{add-one}
 use borrow.Author.Tests.{lt-ltb, le-ltb}
 use lib.ListN.{length, getD, take, drop, replicate, length-replicate, take-append-drop}
@@ -24,7 +24,6 @@ use Rattle.cycle.specs.Silence.{silent, isReading}
 use Rattle.cycle.proofs.SilenceLaws.{tick-reading}
 use Rattle.shape.specs.Rules.{reach}
 use Rattle.shape.specs.declared.Shape.{Shape}
-use Rattle.median.specs.Median.{phaseOf}
 use Rattle.window.specs.Mirror.{mirror}
 use Rattle.window.specs.Window.{padded, stretch, block, window, centre}
 use Rattle.window.specs.Phase.{phase}
@@ -37,9 +36,9 @@ use Rattle.filter.proofs.Demand3.{spot-filtered}
 use Rattle.live.specs.declared.LiveWindow.{LiveWindow}
 use Rattle.live.specs.declared.FreshAnswer.the-variants as made
 use Rattle.live.specs.declared.LiveAnswer.{LiveAnswer}
-use Rattle.live.specs.Window.{LiveResult, latestOf, readingAt, livePhase, resultOf, resultAfter}
+use Rattle.live.specs.Window.{latestOf, readingAt, livePhase, resultOf, resultAfter}
 use Rattle.live.specs.Window.LiveResult.{filling}
-use Rattle.live.specs.Calls.{pushDue, liveTold, Live, FreshCall}
+use Rattle.live.specs.Calls.{liveTold, FreshCall}
 use Rattle.live.specs.Pushes.{Pushes}
 use Rattle.live.proofs.Latest.{reading-place, latest-is}
 use Rattle.live.proofs.Calls.{Sizes, window-clear}

@@ -1,23 +1,23 @@
 -- What the code finds in the arrays of a live window is the phase that the paper chooses. The least key is that of a heard reading, and its
 -- rank, from the centre or what stands in for it, is the one that the choice among the heard readings keeps. Assumes nothing.
-use Prim.Native.Nat.{ℕ, _+_, _*_, _/_, _%_, _^_, _≤_, _<_, min}
-use mathlib.Core.Path.{_≡_, refl, ap, sym, subst, _∙_}
-use mathlib.Core.Bool.{true, false}
+use Prim.Native.Nat.{ℕ, _+_, _*_, _%_, _^_, _≤_, _<_, min}
+use mathlib.Core.Path.{_≡_, refl, ap, sym, _∙_}
+use mathlib.Core.Bool.{true}
 use mathlib.Core.Logic.{inr}
 use mathlib.Core.List.{List, [], _∷_}
 use native.Mathlib.Omega.{arith}
-use native.Mathlib.Decide.{decLt, ℕ-discrete}
+use native.Mathlib.Decide.{decLt}
 use native.Mathlib.Nat.{mod-eq-of-lt}
 use borrow.Author.Tests.{lt-ltb, le-ltb}
-use lib.ListN.{length, getD, take}
+use lib.ListN.{length, getD}
 use Rattle.lists.specs.Members.{In, Each}
 use Rattle.lists.specs.Tabulate.{tabulate}
 use Rattle.lists.proofs.Members.{each-in}
 use Rattle.lists.proofs.Tabulate.{in-tabulate, in-place, take-tabulate}
-use Rattle.lists.proofs.Keep.{in-keep, keep-in, keep-good}
+use Rattle.lists.proofs.Keep.{in-keep, keep-in}
 use Rattle.refusal.specs.Limits.{longestCycle, liveCycle, liveLength}
 use Rattle.cycle.specs.Silence.{silent, isHeard, isReading, heard}
-use Rattle.cycle.proofs.SilenceLaws.{unheard, heard-case, tick-heard, tick-reading, silent-reading, reading-case, heard-ticks}
+use Rattle.cycle.proofs.SilenceLaws.{unheard, tick-heard, tick-reading, silent-reading, reading-case, heard-ticks}
 use Rattle.shape.specs.Rules.{reach}
 use Rattle.median.specs.Sum.{sumAt, shares, Ticks}
 use Rattle.median.specs.Choice.{rank, key, chosen}

@@ -1,11 +1,11 @@
 -- Laws of the sums of a live window: their size, and that the code's pass over the arrays of a window leaves those of the window with one
 -- reading more. Assumes nothing.
-use Prim.Native.Nat.{ℕ, _+_, _-_, _*_, _/_, _%_, _^_, _≤_, _<_}
+use Prim.Native.Nat.{ℕ, _+_, _-_, _*_, _/_, _^_, _≤_, _<_}
 use mathlib.Core.Path.{_≡_, ap, sym, _∙_}
 use mathlib.Core.Bool.{true}
 use mathlib.Core.List.{List, [], _∷_, _++_}
 use native.Mathlib.Omega.{arith}
-use native.Mathlib.Nat.{mod-eq-of-lt, mul-le-mul}
+use native.Mathlib.Nat.{mul-le-mul}
 use borrow.Author.Tests.{le-leb}
 use lib.ListN.{length, getD}
 use Rattle.lists.specs.Members.{Each}
@@ -21,7 +21,7 @@ use Rattle.cycle.proofs.DistanceLaws.{distance-symmetric, distance-self}
 use Rattle.median.specs.Sum.{share, shares}
 use Rattle.median.proofs.Sum.{share-heard, share-silent, share-half, share-short}
 use Rattle.live.specs.Window.{latestOf, readingAt, sumOf}
-use Rattle.live_passes.specs.Passes.{gained, slid, gainedBy}
+use Rattle.live_passes.specs.Passes.{distanceTo, slid, distancesTo}
 use Rattle.live.proofs.Latest.{latest-length, latest-is, reading-reads, reading-next, reading-newest, latest-total}
 
 -- a reading adds nothing to its own sum
@@ -67,23 +67,23 @@ module _ (c t : ℕ) (history : List ℕ) (x : ℕ) (hc : c ≤ liveCycle) (some
       (omega (arith, latest-total t history x (share c q) some, shares-fit c t q (history ++ (x ∷ [])) hc ht, share-half c q oldest))
 
   -- the sum at the newest
-  pub gained-live : gainedBy c x readings (t - 1) ≡ sumOf c t (history ++ (x ∷ [])) (t - 1)
-  unfolding gainedBy
-  gained-live =
+  pub newest-live : distancesTo c x readings (t - 1) ≡ sumOf c t (history ++ (x ∷ [])) (t - 1)
+  unfolding distancesTo
+  newest-live =
       let now = readingAt t (history ++ (x ∷ [])) in
       let last : t ≡ (t - 1) + 1 = omega arith in
       let whole : shares c x (latestOf t (history ++ (x ∷ []))) ≡ total (share c x) (tabulate now 0 ((t - 1) + 1)) =
       ap (shares c x) (latest-is t (history ++ (x ∷ []))) ∙ ap (λ (n : ℕ). total (share c x) (tabulate now 0 n)) last in
       let own : share c x (now (0 + (t - 1))) ≡ 0 =
       ap (λ (k : ℕ). share c x (now k)) (omega arith) ∙ ap (share c x) (reading-newest t history x some) ∙ share-self c x in
-      let rest : totalFrom (gained c x readings) 0 (t - 1) ≡ totalFrom (λ k. share c x (now k)) 0 (t - 1) =
-      total-from-cong (gained c x readings) (λ k. share c x (now k)) 0 (t - 1) (λ k h g. gain k (omega arith)) in
+      let rest : totalFrom (distanceTo c x readings) 0 (t - 1) ≡ totalFrom (λ k. share c x (now k)) 0 (t - 1) =
+      total-from-cong (distanceTo c x readings) (λ k. share c x (now k)) 0 (t - 1) (λ k h g. gain k (omega arith)) in
       let due = total-more (share c x) now 0 (t - 1) in
       let places = total-places (share c x) now 0 (t - 1) in
       rw (reading-newest t history x some)
       (omega (arith, whole, own, rest, due, places, shares-fit c t x (history ++ (x ∷ [])) hc ht))
     where
-      gain : (k : ℕ) → k + 1 < t → gained c x readings k ≡ share c x (readingAt t (history ++ (x ∷ [])) k)
+      gain : (k : ℕ) → k + 1 < t → distanceTo c x readings k ≡ share c x (readingAt t (history ++ (x ∷ [])) k)
       gain k h =
           ap (λ (q : ℕ). distance c q x) (place-holds (readingAt t history) (k + 1) (omega arith))
           ∙ distance-symmetric c (readingAt t history (k + 1)) x

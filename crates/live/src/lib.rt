@@ -14,11 +14,9 @@ use verdicts::push_verdict;
 use verdicts::window_verdict;
 ghost use mathlib.Core.Path.{_≡_};
 ghost use mathlib.Core.List.{[]};
-ghost use Prim.Native.Nat.{_+_, _≤_, _<_, min};
-ghost use lib.ListN.{length};
+ghost use Prim.Native.Nat.{_+_, min};
 ghost use Rattle.refusal.specs.Outcome.Outcome.{accepted};
-ghost use Rattle.refusal.specs.Limits.{liveCycle};
-ghost use Rattle.live_passes.specs.Passes.{settled};
+ghost use Rattle.live_passes.specs.Passes.{Settleable, settled};
 ghost use Rattle.live.specs.Window.{windowOf, resultOf, liveAfter};
 ghost use Rattle.live.specs.Calls.{noWindow, liveTold, FreshCall, PushCall};
 ghost use Rattle.live.specs.Told.{resultBy};
@@ -154,7 +152,7 @@ fn answer_of(phase: u16) -> LiveAnswer
 
 // The answer of a window of n in which so many readings are: no phase is looked for while it fills.
 fn told(cycle: u32, n: u32, filled: u32, readings: &[u16], sums: &[u16]) -> LiveAnswer
-    requires { ⌜ (0 < cycle) × (cycle ≤ liveCycle) × (0 < n) × (n ≤ length (now readings)) × (n ≤ length (now sums)) ⌝ }
+    requires { ⌜ Settleable cycle n (now readings) (now sums) ⌝ }
     ensures { λ r. ⌜ liveTold r ≡ accepted (resultBy n filled (settled cycle n (now (readings .entry)) (now (sums .entry)))) ⌝ }
 {
     if filled < n {

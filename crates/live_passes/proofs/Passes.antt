@@ -16,28 +16,28 @@ use Rattle.memory.specs.Memory.{Changed, noSum, lowest}
 use Rattle.memory.proofs.Memory.{changed-is, changed-turn-first, changed-done}
 use Rattle.reading_choice.specs.Ranks.{wayTo, rankBy, rankOf, phaseBy}
 use Rattle.reading_choice.proofs.RankLaws.{one-more}
-use Rattle.live_passes.specs.Passes.{gained, slid, gainedBy, centreIn, tickOrSilent, keyOf, keyAt, settledFrom, settled}
+use Rattle.live_passes.specs.Passes.{distanceTo, slid, distancesTo, centreIn, tickOrSilent, keyOf, keyAt, settledFrom, settled}
 
 -- a number that l added to wraps back to n
 wraps-back : (n l r : ℕ) → (r + l) % 2 ^ 16 ≡ n % 2 ^ 16 → r < 2 ^ 16 → l < 2 ^ 16 → r ≡ (n + (2 ^ 16 - l)) % 2 ^ 16
 wraps-back n l r e u v = omega arith
 
 module _ (c x : ℕ) (readings : List ℕ) where
-  pub gained-none : 0 ≡ gainedBy c x readings 0
-  unfolding gainedBy total
-  gained-none = refl
+  pub distances-none : 0 ≡ distancesTo c x readings 0
+  unfolding distancesTo total
+  distances-none = refl
 
   -- one reading more
-  pub gained-more : (k : ℕ) {s g r : ℕ} → s ≡ gainedBy c x readings k → g ≡ gained c x readings k → r ≡ (s + g) % 2 ^ 16 → r ≡ gainedBy c x readings (k + 1)
-  unfolding gainedBy
-  gained-more k {s} {g} {r} e d f =
-      let more : totalFrom (gained c x readings) 0 (k + 1) ≡ totalFrom (gained c x readings) 0 k + gained c x readings k =
-      total-more (gained c x readings) (λ i. i) 0 k ∙ ap (λ (i : ℕ). totalFrom (gained c x readings) 0 k + gained c x readings i) (omega arith) in
+  pub distances-more : (k : ℕ) {s g r : ℕ} → s ≡ distancesTo c x readings k → g ≡ distanceTo c x readings k → r ≡ (s + g) % 2 ^ 16 → r ≡ distancesTo c x readings (k + 1)
+  unfolding distancesTo
+  distances-more k {s} {g} {r} e d f =
+      let more : totalFrom (distanceTo c x readings) 0 (k + 1) ≡ totalFrom (distanceTo c x readings) 0 k + distanceTo c x readings k =
+      total-more (distanceTo c x readings) (λ i. i) 0 k ∙ ap (λ (i : ℕ). totalFrom (distanceTo c x readings) 0 k + distanceTo c x readings i) (omega arith) in
       omega (arith, e, d, f, more)
 
   -- the newest is added, and the oldest taken off
-  pub slid-by : (sums : List ℕ) (k : ℕ) {g m l r : ℕ} → g ≡ gained c x readings k → m ≡ (getD sums (k + 1) 0 + g) % 2 ^ 16
-      → l ≡ gained c (getD readings 0 0) readings k → (r + l) % 2 ^ 16 ≡ m → r < 2 ^ 16 → l < 2 ^ 16 → r ≡ slid c x readings sums k
+  pub slid-by : (sums : List ℕ) (k : ℕ) {g m l r : ℕ} → g ≡ distanceTo c x readings k → m ≡ (getD sums (k + 1) 0 + g) % 2 ^ 16
+      → l ≡ distanceTo c (getD readings 0 0) readings k → (r + l) % 2 ^ 16 ≡ m → r < 2 ^ 16 → l < 2 ^ 16 → r ≡ slid c x readings sums k
   unfolding slid
   slid-by sums k {g} {m} {l} {r} e d f h u v = rw (← e, ← f) (wraps-back (getD sums (k + 1) 0 + g) l r (h ∙ d) u v)
 

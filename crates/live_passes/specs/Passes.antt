@@ -1,10 +1,11 @@
 -- What the passes over a live window's arrays leave at each place and find, whatever the arrays hold. Internal to the live window.
-use Prim.Native.Nat.{ℕ, _+_, _-_, _*_, _%_, _^_, min}
+use Prim.Native.Nat.{ℕ, _+_, _-_, _*_, _%_, _^_, _≤_, _<_, min}
 use mathlib.Core.Bool.{cond}
 use mathlib.Core.List.{List}
 use lib.Dec.{ltb}
-use lib.ListN.{getD, take}
+use lib.ListN.{length, getD, take}
 use Rattle.lists.specs.Total.{totalFrom}
+use Rattle.refusal.specs.Limits.{liveCycle}
 use Rattle.cycle.specs.Distance.{distance}
 use Rattle.cycle.specs.Silence.{silent, isHeard}
 use Rattle.shape.specs.Rules.{reach}
@@ -17,23 +18,31 @@ abbrev pub behind : List ℕ → ℕ → ℕ
 behind readings k = getD readings (k + 1) 0
 
 -- its distance to x, whatever the two are
-abbrev pub gained : ℕ → ℕ → List ℕ → ℕ → ℕ
-gained c x readings k = distance c (behind readings k) x
+abbrev pub distanceTo : ℕ → ℕ → List ℕ → ℕ → ℕ
+distanceTo c x readings k = distance c (behind readings k) x
 
 -- its sum with the newest reading x added and the oldest taken off, modulo 2 ^ 16
 unfoldable pub slid : ℕ → ℕ → List ℕ → List ℕ → ℕ → ℕ
-slid c x readings sums k = (getD sums (k + 1) 0 + gained c x readings k + (2 ^ 16 - gained c (getD readings 0 0) readings k)) % 2 ^ 16
+slid c x readings sums k = (getD sums (k + 1) 0 + distanceTo c x readings k + (2 ^ 16 - distanceTo c (getD readings 0 0) readings k)) % 2 ^ 16
 
 -- the sum at the newest reading x, of n that stay
-unfoldable pub gainedBy : ℕ → ℕ → List ℕ → ℕ → ℕ
-gainedBy c x readings n = totalFrom (gained c x readings) 0 n % 2 ^ 16
+unfoldable pub distancesTo : ℕ → ℕ → List ℕ → ℕ → ℕ
+distancesTo c x readings n = totalFrom (distanceTo c x readings) 0 n % 2 ^ 16
 
 -- place k of a window of t once x has entered
 abbrev pub enteredReading : ℕ → ℕ → List ℕ → ℕ → ℕ
 enteredReading x t readings k = cond (ltb k (t - 1)) (behind readings k) x
 
 abbrev pub enteredSum : ℕ → ℕ → ℕ → List ℕ → List ℕ → ℕ → ℕ
-enteredSum c x t readings sums k = cond (ltb k (t - 1)) (slid c x readings sums k) (gainedBy c x readings (t - 1))
+enteredSum c x t readings sums k = cond (ltb k (t - 1)) (slid c x readings sums k) (distancesTo c x readings (t - 1))
+
+-- a window of n readings, on a cycle that a live window takes, may be looked at
+pub record Settleable (c n : ℕ) (readings sums : List ℕ) : Type 0 where
+  pub cycle-some : 0 < c
+  pub cycle-fits : c ≤ liveCycle
+  pub some : 0 < n
+  pub readings-room : n ≤ length readings
+  pub sums-room : n ≤ length sums
 
 -- the middle reading of t, or what stands in for it
 abbrev pub centreIn : ℕ → List ℕ → ℕ

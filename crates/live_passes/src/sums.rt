@@ -6,7 +6,7 @@ ghost use mathlib.Core.Path.{_≡_};
 ghost use Prim.Native.Nat.{_≤_, _<_};
 ghost use lib.ListN.{length};
 ghost use Rattle.memory.specs.Memory.{Changed};
-ghost use Rattle.live_passes.specs.Passes.{behind, slid, gainedBy, enteredReading, enteredSum};
+ghost use Rattle.live_passes.specs.Passes.{behind, slid, distancesTo, enteredReading, enteredSum};
 
 // Moves the readings behind the oldest to the front, each with its sum: the distance to the newest added, that
 // to the oldest taken off. What the newest adds to them all is its own sum. One pass without a branch.
@@ -14,7 +14,7 @@ fn slide(cycle: u16, newest: u16, last: usize, readings: &mut [u16], sums: &mut 
     requires { ⌜ (last < length (now readings)) × (last < length (now sums)) ⌝ }
     ensures { λ _. ⌜ Changed (now (readings .entry)) (now (readings .exit)) 0 last (behind (now (readings .entry))) ⌝ }
     ensures { λ _. ⌜ Changed (now (sums .entry)) (now (sums .exit)) 0 last (slid cycle newest (now (readings .entry)) (now (sums .entry))) ⌝ }
-    ensures { λ r. ⌜ r ≡ gainedBy cycle newest (now (readings .entry)) last ⌝ }
+    ensures { λ r. ⌜ r ≡ distancesTo cycle newest (now (readings .entry)) last ⌝ }
 {
     let oldest = readings[0];
     let mut total = 0;

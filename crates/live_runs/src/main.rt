@@ -7,17 +7,17 @@
 // holds. `row` has readings alone, all accepted, which both engines filter too. `forged` has C, T and the count of a
 // window, and after commas its readings and its sums: of such a window it is printed only whether a push is refused,
 // until a reset has made it fresh. At last stands what was counted.
-mod answers;
-mod marks;
-mod pushes;
 mod rows;
-mod tally;
-mod windows;
 
 use live::LiveWindow;
-use pushes::Run;
-use pushes::begin;
-use pushes::run_words;
+use live::PLACES;
+use live_checks::pushes::Run;
+use live_checks::pushes::begin;
+use live_checks::pushes::run_words;
+use live_checks::tally::Tally;
+use live_checks::tally::no_tally;
+use live_checks::tally::say_tally;
+use live_checks::windows::say_window;
 use rows::run_row;
 use runs::cases::DECIMAL;
 use runs::cases::MOST_INPUT;
@@ -29,10 +29,6 @@ use runs::cases::numbers_of;
 use runs::cases::readings_of;
 use runs::counts::after;
 use runs::print::say;
-use tally::Tally;
-use tally::no_tally;
-use tally::say_tally;
-use windows::say_window;
 
 fn live_line(tally: Tally, line: &[u8]) -> Tally {
     let mut sizes = [0u32; 2];
@@ -57,8 +53,8 @@ fn row_line(tally: Tally, line: &[u8]) -> Tally {
 // The window of a case: its numbers, its readings and its sums, each as a text.
 fn forged(sizes: &[u8], readings_text: &[u8], sums_text: &[u8]) -> LiveWindow {
     let mut numbers = [0u32; 3];
-    let mut readings = [0u16; 63];
-    let mut sums = [0u16; 63];
+    let mut readings = [0u16; PLACES];
+    let mut sums = [0u16; PLACES];
     numbers_of(sizes, DECIMAL, &mut numbers);
     readings_of(readings_text, &mut readings);
     readings_of(sums_text, &mut sums);

@@ -1,12 +1,13 @@
 // A row pushed into a fresh window, by value and in place, and filtered by both engines as an image of one row: the
 // answer to reading k, from T - 1 on, must be the output at column k - t.
-use crate::marks::mark_of;
-use crate::marks::say_marks;
-use crate::tally::Tally;
-use crate::tally::compared;
-use crate::tally::pushed_row;
 use filter::Engine;
 use filter::FilterAnswer;
+use live::PLACES;
+use live_checks::marks::mark_of;
+use live_checks::marks::say_marks;
+use live_checks::tally::Tally;
+use live_checks::tally::compared;
+use live_checks::tally::pushed_row;
 use runs::counts::least;
 use runs::counts::minus;
 use runs::counts::plus;
@@ -46,8 +47,8 @@ fn push_row(cycle: u32, length: u32, row: &[u16], answers: &mut [u16]) {
 
 // The answers in place, on two arrays that are kept from reading to reading.
 fn push_row_in(cycle: u32, length: u32, row: &[u16], answers: &mut [u16]) {
-    let mut readings = [0u16; 63];
-    let mut sums = [0u16; 63];
+    let mut readings = [0u16; PLACES];
+    let mut sums = [0u16; PLACES];
     live::fresh_in(cycle, length, &mut readings, &mut sums);
     let mut filled = 0;
     let mut k = 0;

@@ -3,7 +3,8 @@
 // among the readings that have it; a silent reading has no sum, which changes nothing. After the last plane
 // the ranks that are kept tell the phases of the row.
 // Each pass is one loop without a branch over contiguous numbers; sums and ranks are compared as signed
-// numbers, which takes fewer packed instructions. Internal: the engine meets each `requires`.
+// numbers, which takes fewer packed instructions. Internal: the engine meets each `requires`, and so does the
+// live window, which takes its ranks and its phase from here.
 use cycle::SILENT;
 use cycle::least;
 use cycle::less;

@@ -38,7 +38,13 @@ told-requires : tie.Need-told-requires
 told-requires c κs =
     let e = c .before .before .before .before .before in
     let k = sizes (passed e) in
-    (k .cycle-some, k .cycle-fits, omega (arith, k .odd), omega (arith, k .fits, c .before .before .told-arg2 .given .0), omega (arith, k .fits, c .told-arg4 .given .0))
+    record {
+      cycle-some = k .cycle-some;
+      cycle-fits = k .cycle-fits;
+      some = omega (arith, k .odd);
+      readings-room = omega (arith, k .fits, c .before .before .told-arg2 .given .0);
+      sums-room = omega (arith, k .fits, c .told-arg4 .given .0);
+    }
 
 returns : tie.Need-returns
 returns c = let s = c .before .before .before .before in push-refused _ (s .args .reading) (c .before .before .before .push-verdict .ensures) (c .before .f .given .1)

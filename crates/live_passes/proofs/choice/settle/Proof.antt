@@ -16,7 +16,7 @@ phase-by-requires : tie.Need-phase-by-requires
 phase-by-requires c κs =
     let t = centred c in
     let s = start t in
-    (reading-of (s .args .cycle) (t .before .centre-of .result) (t .tick-or-silent .ensures), s .pre .0, omega (arith, c .least .ensures), omega (arith, s .pre .1))
+    (reading-of (s .args .cycle) (t .before .centre-of .result) (t .tick-or-silent .ensures), s .pre .cycle-some, omega (arith, c .least .ensures), omega (arith, s .pre .cycle-fits))
 
 returns : tie.Need-returns
 returns c =

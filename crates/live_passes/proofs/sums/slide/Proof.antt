@@ -6,22 +6,22 @@ use borrow.Author.Needs.{needs}
 use lib.ListN.{getD}
 use Rattle.memory.specs.Memory.{Changed}
 use Rattle.memory.proofs.Memory.{changed-start, changed-turn-first, changed-done}
-use Rattle.live_passes.specs.Passes.{behind, gained, slid, gainedBy}
-use Rattle.live_passes.proofs.Passes.{gained-none, gained-more, slid-by}
+use Rattle.live_passes.specs.Passes.{behind, distanceTo, slid, distancesTo}
+use Rattle.live_passes.proofs.Passes.{distances-none, distances-more, slid-by}
 use Rattle.live_passes.proofs.sums.slide.Statement.{statement}
 use Rattle.live_passes.proofs.sums.slide.Tie as tie
 
 abbrev Inv-loop : tie.InvT-loop
 Inv-loop cycle newest last readings₀ sums₀ oldest total₀ k₀ readings sums total k =
     (k ≤ last) × Changed readings₀ readings 0 k (behind readings₀) × Changed sums₀ sums 0 k (slid cycle newest readings₀ sums₀)
-    × (total ≡ gainedBy cycle newest readings₀ k) × (oldest ≡ getD readings₀ 0 0)
+    × (total ≡ distancesTo cycle newest readings₀ k) × (oldest ≡ getD readings₀ 0 0)
 
 abbrev μ-loop : tie.MeasureT-loop
 μ-loop cycle newest last readings₀ sums₀ oldest total₀ k₀ readings sums total k = last - k
 
 -- back from a place: the distance to the newest is found, the turn at hand, where the call began
-abbrev gained-at : tie.After-wrapping-sub-u16 Inv-loop μ-loop → tie.After-apart Inv-loop μ-loop
-gained-at c = c .before .before .before .before
+abbrev measured-at : tie.After-wrapping-sub-u16 Inv-loop μ-loop → tie.After-apart Inv-loop μ-loop
+measured-at c = c .before .before .before .before
 
 abbrev turn : tie.After-apart Inv-loop μ-loop → tie.At-loop Inv-loop μ-loop
 turn c = c .before .before .before
@@ -38,15 +38,15 @@ next-sum c = c .loop .inv .2 .after (c .loop .k + 1) (omega arith)
 
 -- what it gains by the newest
 gain : (c : tie.After-apart Inv-loop μ-loop) → let t = turn c in let a = start t .args in
-    c .apart .result ≡ gained (a .cycle) (a .newest) (a .readings .now) (t .loop .k)
+    c .apart .result ≡ distanceTo (a .cycle) (a .newest) (a .readings .now) (t .loop .k)
 gain c = c .apart .ensures ∙ rw (next-reading (turn c))
 
 loop-holds : tie.Need-loop-holds Inv-loop μ-loop
-loop-holds c = (search needs, changed-start, changed-start, gained-none _ _ _, refl)
+loop-holds c = (search needs, changed-start, changed-start, distances-none _ _ _, refl)
 
 -- and what it loses by the oldest
 loss : (c : tie.After-apart2 Inv-loop μ-loop) → let t = turn (c .before .before .before) in let a = start t .args in
-    c .apart2 .result ≡ gained (a .cycle) (getD (a .readings .now) 0 0) (a .readings .now) (t .loop .k)
+    c .apart2 .result ≡ distanceTo (a .cycle) (getD (a .readings .now) 0 0) (a .readings .now) (t .loop .k)
 loss c = let t = turn (c .before .before .before) in c .apart2 .ensures ∙ rw (next-reading t, t .loop .inv .4)
 
 sum-and-gain : (c : tie.After-wrapping-add-u16 Inv-loop μ-loop) → let g = c .before .before in let t = turn g in
@@ -56,7 +56,7 @@ sum-and-gain c = c .wrapping-add-u16 .ensures ∙ rw (next-sum (turn (c .before 
 loop-again : tie.Need-loop-again Inv-loop μ-loop
 loop-again c =
     let w = c .before in
-    let g = gained-at w in
+    let g = measured-at w in
     let t = turn g in
     let l = t .loop in
     let s = start t in
@@ -66,7 +66,7 @@ loop-again c =
       changed-turn-first (l .inv .1) (omega (arith, s .pre)) (next-reading t),
       changed-turn-first (l .inv .2) (omega (arith, s .pre))
           (slid-by (a .cycle) (a .newest) (a .readings .now) (a .sums .now) (l .k) (gain g) more (loss (w .before)) (w .wrapping-sub-u16 .ensures) (omega arith) (omega arith)),
-      gained-more (a .cycle) (a .newest) (a .readings .now) (l .k) (l .inv .3) (gain g) (c .wrapping-add-u162 .ensures),
+      distances-more (a .cycle) (a .newest) (a .readings .now) (l .k) (l .inv .3) (gain g) (c .wrapping-add-u162 .ensures),
       l .inv .4,
     )
 

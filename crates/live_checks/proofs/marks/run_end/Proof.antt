@@ -1,9 +1,9 @@
--- `live_runs::marks::run_end` meets its contract. Assumes nothing.
+-- `live_checks::marks::run_end` meets its contract. Assumes nothing.
 use Prim.Native.Nat.{_≤_, _<_, _-_}
 use borrow.Author.Needs.{needs}
 use lib.ListN.{length}
-use Rattle.live_runs.proofs.marks.run_end.Statement.{statement}
-use Rattle.live_runs.proofs.marks.run_end.Tie as tie
+use Rattle.live_checks.proofs.marks.run_end.Statement.{statement}
+use Rattle.live_checks.proofs.marks.run_end.Tie as tie
 
 abbrev Inv-loop : tie.InvT-loop
 Inv-loop numbers at end₀ end = (at < end) × (end ≤ length numbers)

@@ -1,8 +1,8 @@
--- `live_runs::windows::same_numbers` meets its contract. Assumes nothing.
+-- `live_checks::windows::same_numbers` meets its contract. Assumes nothing.
 use Prim.Native.Nat.{_≤_, _-_}
 use borrow.Author.Needs.{needs}
-use Rattle.live_runs.proofs.windows.same_numbers.Statement.{statement}
-use Rattle.live_runs.proofs.windows.same_numbers.Tie as tie
+use Rattle.live_checks.proofs.windows.same_numbers.Statement.{statement}
+use Rattle.live_checks.proofs.windows.same_numbers.Tie as tie
 
 abbrev Inv-loop : tie.InvT-loop
 Inv-loop a b k₀ k = k ≤ 63

@@ -1,9 +1,9 @@
--- `live_runs::pushes::run_words` meets its contract. Assumes nothing.
+-- `live_checks::pushes::run_words` meets its contract. Assumes nothing.
 use Prim.Native.Nat.{_≤_, _-_}
 use borrow.Author.Needs.{needs}
 use lib.ListN.{length}
-use Rattle.live_runs.proofs.pushes.run_words.Statement.{statement}
-use Rattle.live_runs.proofs.pushes.run_words.Tie as tie
+use Rattle.live_checks.proofs.pushes.run_words.Statement.{statement}
+use Rattle.live_checks.proofs.pushes.run_words.Tie as tie
 
 abbrev Inv-loop : tie.InvT-loop
 Inv-loop text now₀ at₀ now at = at ≤ length text

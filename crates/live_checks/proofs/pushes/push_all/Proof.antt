@@ -1,9 +1,9 @@
--- `live_runs::pushes::push_all` meets its contract. Assumes nothing.
+-- `live_checks::pushes::push_all` meets its contract. Assumes nothing.
 use Prim.Native.Nat.{_≤_, _-_}
 use borrow.Author.Needs.{needs}
 use lib.ListN.{length}
-use Rattle.live_runs.proofs.pushes.push_all.Statement.{statement}
-use Rattle.live_runs.proofs.pushes.push_all.Tie as tie
+use Rattle.live_checks.proofs.pushes.push_all.Statement.{statement}
+use Rattle.live_checks.proofs.pushes.push_all.Tie as tie
 
 abbrev Inv-loop : tie.InvT-loop
 Inv-loop readings now₀ k₀ now k = k ≤ length readings

@@ -5,6 +5,7 @@ use crate::answers::is_refused;
 use crate::answers::live_said;
 use crate::marks::say_marks;
 use live::LiveWindow;
+use live::PLACES;
 use runs::print::say;
 use runs::print::say_number;
 
@@ -14,9 +15,9 @@ pub struct Call {
     pub window: LiveWindow,
 }
 
-fn same_numbers(a: &[u16; 63], b: &[u16; 63]) -> bool {
+fn same_numbers(a: &[u16; PLACES], b: &[u16; PLACES]) -> bool {
     let mut k = 0;
-    while k < 63 {
+    while k < PLACES {
         if a[k] != b[k] {
             return false;
         }
@@ -62,8 +63,8 @@ pub fn say_window(window: LiveWindow) {
 
 // Numbers that no fresh window holds, for a new window to be made in their place.
 pub fn garbage(cycle: u32, length: u32) -> LiveWindow {
-    let readings = [40503u16; 63];
-    let sums = [9973u16; 63];
+    let readings = [40503u16; PLACES];
+    let sums = [9973u16; PLACES];
     LiveWindow {
         cycle,
         length,

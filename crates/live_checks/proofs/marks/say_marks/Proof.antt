@@ -1,9 +1,9 @@
--- `live_runs::marks::say_marks` meets its contract. Assumes nothing.
+-- `live_checks::marks::say_marks` meets its contract. Assumes nothing.
 use Prim.Native.Nat.{_≤_, _-_}
 use borrow.Author.Needs.{needs}
 use lib.ListN.{length}
-use Rattle.live_runs.proofs.marks.say_marks.Statement.{statement}
-use Rattle.live_runs.proofs.marks.say_marks.Tie as tie
+use Rattle.live_checks.proofs.marks.say_marks.Statement.{statement}
+use Rattle.live_checks.proofs.marks.say_marks.Tie as tie
 
 abbrev Inv-loop : tie.InvT-loop
 Inv-loop numbers at₀ at = at ≤ length numbers
