@@ -11,13 +11,14 @@ use lib.Seq.{ext-getD}
 use Rattle.lists.specs.Members.{Each}
 use Rattle.lists.specs.Tabulate.{tabulate}
 use Rattle.lists.proofs.Tabulate.{length-tabulate}
-use Rattle.refusal.specs.Limits.{liveCycle, liveLength}
+use Rattle.refusal.specs.Limits.{liveLength}
 use Rattle.cycle.specs.Silence.{silent, isReading}
 use Rattle.median.proofs.Sum.{shares-silent}
 use Rattle.memory.specs.Memory.{Changed}
 use Rattle.memory.proofs.Memory.{changed-first}
-use Rattle.live.specs.Window.{latestOf, readingAt, sumOf}
+use Rattle.live.specs.Window.{latestOf, readingAt, sumOf, readingsOf, sumsOf}
 use Rattle.live_passes.specs.Passes.{enteredReading, enteredSum}
+use Rattle.live.proofs.Sizes.{Sizes}
 use Rattle.live.proofs.Latest.{reading-place, reading-beyond, reading-next, reading-newest}
 use Rattle.live.proofs.Sliding.{place-holds, slid-live, newest-live}
 
@@ -53,28 +54,22 @@ changed-array {w} {w′} {t} {f} old new is c inside outside =
     at k (yes h) l = changed-first c k h ∙ inside k h
     at k (no h) l = c .after k (omega arith) ∙ ap (λ (m : List ℕ). getD m k 0) is ∙ place-holds old k l ∙ outside k (omega arith)
 
-module _ (c t : ℕ) (history : List ℕ) (x : ℕ) (hc : c ≤ liveCycle) (some : 0 < t) (ht : t ≤ liveLength)
-    (good : Each (λ z. isReading c z ≡ true) history) (reads : isReading c x ≡ true) where
-  abbrev readings : List ℕ
-  readings = tabulate (readingAt t history) 0 liveLength
-
-  abbrev sums : List ℕ
-  sums = tabulate (sumOf c t history) 0 liveLength
-
-  pub readings-entered : {w′ : List ℕ} → Changed readings w′ 0 t (enteredReading x t readings)
-      → w′ ≡ tabulate (readingAt t (history ++ (x ∷ []))) 0 liveLength
+module _ (c t : ℕ) (history : List ℕ) (x : ℕ) (sizes : Sizes c t) (good : Each (λ z. isReading c z ≡ true) history)
+    (reads : isReading c x ≡ true) where
+  pub readings-entered : {w′ : List ℕ} → Changed (readingsOf t history) w′ 0 t (enteredReading x t (readingsOf t history))
+      → w′ ≡ readingsOf t (history ++ (x ∷ []))
   readings-entered d =
       changed-array (readingAt t history) (readingAt t (history ++ (x ∷ []))) refl d (λ k h. inside k h (decLt k (t - 1)))
       (λ k h. reading-beyond t history k h ∙ sym (reading-beyond t (history ++ (x ∷ [])) k h))
     where
-      inside : (k : ℕ) → k < t → Dec (k < t - 1) → enteredReading x t readings k ≡ readingAt t (history ++ (x ∷ [])) k
+      inside : (k : ℕ) → k < t → Dec (k < t - 1) → enteredReading x t (readingsOf t history) k ≡ readingAt t (history ++ (x ∷ [])) k
       inside k h (yes l) =
           rw (lt-ltb k (t - 1) l) (place-holds (readingAt t history) (k + 1) (omega arith) ∙ sym (reading-next t history x k (omega arith)))
       inside k h (no l) =
           let last : k ≡ t - 1 = omega arith in
-          rw (le-ltb k (t - 1) (omega arith)) (sym (ap (readingAt t (history ++ (x ∷ []))) last ∙ reading-newest t history x some))
+          rw (le-ltb k (t - 1) (omega arith)) (sym (ap (readingAt t (history ++ (x ∷ []))) last ∙ reading-newest t history x (sizes .some)))
 
-  pub sums-entered : {w′ : List ℕ} → Changed sums w′ 0 t (enteredSum c x t readings sums) → w′ ≡ tabulate (sumOf c t (history ++ (x ∷ []))) 0 liveLength
+  pub sums-entered : {w′ : List ℕ} → Changed (sumsOf c t history) w′ 0 t (enteredSum c x t (readingsOf t history) (sumsOf c t history)) → w′ ≡ sumsOf c t (history ++ (x ∷ []))
   sums-entered d =
       changed-array (sumOf c t history) (sumOf c t (history ++ (x ∷ []))) refl d (λ k h. inside k h (decLt k (t - 1)))
       (λ k h. beyond history k h ∙ sym (beyond (history ++ (x ∷ [])) k h))
@@ -82,8 +77,8 @@ module _ (c t : ℕ) (history : List ℕ) (x : ℕ) (hc : c ≤ liveCycle) (some
       beyond : (l : List ℕ) (k : ℕ) → t ≤ k → sumOf c t l k ≡ 0
       beyond l k h = shares-silent c (readingAt t l k) (latestOf t l) (reading-beyond t l k h)
 
-      inside : (k : ℕ) → k < t → Dec (k < t - 1) → enteredSum c x t readings sums k ≡ sumOf c t (history ++ (x ∷ [])) k
-      inside k h (yes l) = rw (lt-ltb k (t - 1) l) (slid-live c t history x hc some ht good reads k (omega arith))
+      inside : (k : ℕ) → k < t → Dec (k < t - 1) → enteredSum c x t (readingsOf t history) (sumsOf c t history) k ≡ sumOf c t (history ++ (x ∷ [])) k
+      inside k h (yes l) = rw (lt-ltb k (t - 1) l) (slid-live c t history x sizes good reads k (omega arith))
       inside k h (no l) =
           let last : t - 1 ≡ k = omega arith in
-          rw (le-ltb k (t - 1) (omega arith)) (newest-live c t history x hc some ht good reads ∙ ap (sumOf c t (history ++ (x ∷ []))) last)
+          rw (le-ltb k (t - 1) (omega arith)) (newest-live c t history x sizes good reads ∙ ap (sumOf c t (history ++ (x ∷ []))) last)

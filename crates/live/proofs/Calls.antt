@@ -1,59 +1,36 @@
 -- Laws of the calls of the live window: what acceptance says, and that what the code does is what the calls promise. Assumes nothing.
-use Prim.Native.Nat.{ℕ, _+_, _*_, _%_, _≤_, _<_, min}
+use Prim.Native.Nat.{ℕ, _+_, _<_, min}
 use mathlib.Core.Path.{_≡_, refl, ap, sym, _∙_}
 use mathlib.Core.Bool.{true, cond}
 use mathlib.Core.List.{List, [], _∷_, _++_}
 use native.Mathlib.Omega.{arith}
 use native.Mathlib.Decide.{decLt}
-use borrow.Author.Tests.{ltb-false, lt-ltb, le-ltb, eqb-false, not-false}
+use borrow.Author.Tests.{lt-ltb, le-ltb}
 use lib.Dec.{ltb}
 use lib.ListN.{length, replicate, length-append}
 use Rattle.lists.specs.Members.{Each}
-use Rattle.lists.specs.Tabulate.{tabulate}
 use Rattle.lists.proofs.Members.{each-append}
-use Rattle.refusal.specs.Limits.{liveCycle, liveLength}
+use Rattle.refusal.specs.Limits.{liveLength}
 use Rattle.refusal.specs.Outcome.{firstDue, Clear, verdict}
 use Rattle.refusal.specs.Outcome.Outcome.{accepted}
 use Rattle.refusal.specs.declared.Verdict.{Verdict}
 use Rattle.refusal.specs.declared.Verdict.the-variants.{Passed, Refused}
 use Rattle.refusal.specs.declared.Refusal.{Refusal}
-use Rattle.refusal.proofs.Outcome.{clear-accepted, clear-split, passed-clear, refused-alone}
+use Rattle.refusal.proofs.Outcome.{clear-accepted, passed-clear, refused-alone}
 use Rattle.cycle.specs.Silence.{silent, isReading}
-use Rattle.shape.specs.Rules.{reach}
 use Rattle.memory.specs.Memory.{Changed}
 use Rattle.live.specs.declared.LiveWindow.{LiveWindow}
 use Rattle.live.specs.declared.FreshAnswer.the-variants as made
 use Rattle.live.specs.declared.LiveAnswer.{LiveAnswer}
 use Rattle.live.specs.declared.LiveAnswer.the-variants as live
-use Rattle.live.specs.Window.{readingAt, sumOf, livePhase, resultOf, resultAfter, windowOf, liveAfter}
+use Rattle.live.specs.Window.{readingAt, sumOf, livePhase, resultOf, resultAfter, readingsOf, sumsOf, windowOf, liveAfter}
 use Rattle.live.specs.Window.LiveResult.{filling}
-use Rattle.live.specs.Calls.{windowRules, newestRule, pushRules, freshDue, pushDue, liveTold, Live, FreshCall, PushCall}
+use Rattle.live.specs.Calls.{windowRules, pushRules, freshDue, pushDue, liveTold, Live, FreshCall, PushCall}
 use Rattle.live_passes.specs.Passes.{enteredReading, enteredSum, settled}
 use Rattle.live.specs.Told.{resultBy}
+use Rattle.live.proofs.Sizes.{Sizes, push-clear}
 use Rattle.live.proofs.Arrays.{all-one, fresh-reading, fresh-sum, readings-entered, sums-entered}
 use Rattle.live.proofs.Settled.{settled-live}
-
--- what it says of C and T that their tests are clear
-pub record Sizes (c t : ℕ) : Type 0 where
-  pub cycle-some : 0 < c
-  pub cycle-fits : c ≤ liveCycle
-  pub odd : t ≡ 2 * reach t + 1
-  pub fits : t ≤ liveLength
-
-pub window-clear : (c t : ℕ) → Clear (windowRules c t) → Sizes c t
-window-clear c t k =
-    let cycle = eqb-false c 0 (k .0) in
-    let odd : (t % 2 ≡ 0 → ⊥) = eqb-false _ 0 (k .1 .1 .0) in
-    record {
-      cycle-some = omega arith;
-      cycle-fits = ltb-false liveCycle c (k .1 .0);
-      odd = omega arith;
-      fits = ltb-false liveLength t (k .1 .1 .1 .0);
-    }
-
--- and of a reading
-pub push-clear : (c t x : ℕ) → Clear (pushRules c t x) → Sizes c t × (isReading c x ≡ true)
-push-clear c t x k = let parts = clear-split (windowRules c t) (newestRule c x ∷ []) k in (window-clear c t (parts .0), not-false _ (parts .1 .0))
 
 -- a window with nothing pushed
 pub empty-window : (c t : ℕ) → windowOf c t 0 (replicate liveLength silent) (replicate liveLength 0) ≡ liveAfter c t []
@@ -122,9 +99,6 @@ module _ {c t filled x : ℕ} {readings sums : List ℕ} {told : LiveAnswer} {fi
     reads : isReading c x ≡ true
     reads = push-clear c t x (e .tested) .1
 
-    some : 0 < t
-    some = omega (arith, sizes .odd)
-
     good : Each (λ z. isReading c z ≡ true) more
     good = each-append (λ z. isReading c z ≡ true) history (x ∷ []) (l .readings) (reads, tt)
 
@@ -132,21 +106,21 @@ module _ {c t filled x : ℕ} {readings sums : List ℕ} {told : LiveAnswer} {fi
     unfolding liveAfter
     filled-was = ap (λ (w : LiveWindow). w .filled) (l .is)
 
-    readings-were : readings ≡ tabulate (readingAt t history) 0 liveLength
+    readings-were : readings ≡ readingsOf t history
     unfolding liveAfter
     readings-were = ap (λ (w : LiveWindow). w .readings) (l .is)
 
-    sums-were : sums ≡ tabulate (sumOf c t history) 0 liveLength
+    sums-were : sums ≡ sumsOf c t history
     unfolding liveAfter
     sums-were = ap (λ (w : LiveWindow). w .sums) (l .is)
 
-    readings-now : readings₁ ≡ tabulate (readingAt t more) 0 liveLength
+    readings-now : readings₁ ≡ readingsOf t more
     readings-now =
-        readings-entered c t history x (sizes .cycle-fits) some (sizes .fits) (l .readings) reads (rw readings-were at (e .into-readings))
+        readings-entered c t history x sizes (l .readings) reads (rw readings-were at (e .into-readings))
 
-    sums-now : sums₁ ≡ tabulate (sumOf c t more) 0 liveLength
+    sums-now : sums₁ ≡ sumsOf c t more
     sums-now =
-        sums-entered c t history x (sizes .cycle-fits) some (sizes .fits) (l .readings) reads (rw (readings-were, sums-were) at (e .into-sums))
+        sums-entered c t history x sizes (l .readings) reads (rw (readings-were, sums-were) at (e .into-sums))
 
     length-more : length more ≡ length history + 1
     length-more = length-append history (x ∷ [])
@@ -161,7 +135,7 @@ module _ {c t filled x : ℕ} {readings sums : List ℕ} {told : LiveAnswer} {fi
     told-now : liveTold told ≡ accepted (resultAfter c t more)
     told-now =
         e .answer
-        ∙ rw (readings-now, sums-now) (rw (settled-live c t more (sizes .cycle-fits) some (sizes .fits) good)
+        ∙ rw (readings-now, sums-now) (rw (settled-live c t more sizes good)
         (ap accepted (result-after c t (length history + 1) filled₁ more length-more filled-now)))
 
   pub push-passed : PushCall (windowOf c t filled readings sums) x told (windowOf c t filled₁ readings₁ sums₁)

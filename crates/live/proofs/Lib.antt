@@ -1,3 +1,4 @@
+pub mod Sizes
 pub mod Latest
 pub mod Sliding
 pub mod Arrays

@@ -39,14 +39,10 @@ use Rattle.live.specs.declared.LiveAnswer.{LiveAnswer}
 use Rattle.live.specs.Window.{latestOf, readingAt, livePhase, resultOf, resultAfter}
 use Rattle.live.specs.Window.LiveResult.{filling}
 use Rattle.live.specs.Calls.{liveTold, FreshCall}
-use Rattle.live.specs.Pushes.{Pushes}
+use Rattle.live.specs.Pushes.{Pushes, rowShape}
 use Rattle.live.proofs.Latest.{reading-place, latest-is}
-use Rattle.live.proofs.Calls.{Sizes, window-clear}
+use Rattle.live.proofs.Sizes.{Sizes, window-clear}
 use Rattle.live.proofs.Pushes.{fresh-live, due-accepted, pushes-told}
-
--- a row as an image, under a mask of one row
-abbrev pub rowShape : ℕ → ℕ → ℕ → Shape
-rowShape c n t = record { cycle = c; rows = 1; columns = n; «mask_rows» = 1; «mask_columns» = t }
 
 module _ (c t : ℕ) (row : List ℕ) (k : ℕ) (odd : t ≡ 2 * reach t + 1) (from : t ≤ k + 1) (upto : k < length row) where
   abbrev s : Shape

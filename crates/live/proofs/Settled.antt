@@ -11,11 +11,10 @@ use native.Mathlib.Nat.{mod-eq-of-lt}
 use borrow.Author.Tests.{lt-ltb, le-ltb}
 use lib.ListN.{length, getD}
 use Rattle.lists.specs.Members.{In, Each}
-use Rattle.lists.specs.Tabulate.{tabulate}
 use Rattle.lists.proofs.Members.{each-in}
 use Rattle.lists.proofs.Tabulate.{in-tabulate, in-place, take-tabulate}
 use Rattle.lists.proofs.Keep.{in-keep, keep-in}
-use Rattle.refusal.specs.Limits.{longestCycle, liveCycle, liveLength}
+use Rattle.refusal.specs.Limits.{longestCycle, liveLength}
 use Rattle.cycle.specs.Silence.{silent, isHeard, isReading, heard}
 use Rattle.cycle.proofs.SilenceLaws.{unheard, tick-heard, tick-reading, silent-reading, reading-case, heard-ticks}
 use Rattle.shape.specs.Rules.{reach}
@@ -30,8 +29,9 @@ use Rattle.reading_choice.specs.Ranks.{rankOf, tickOf, phaseBy}
 use Rattle.reading_choice.specs.Weighed.{Weighed}
 use Rattle.reading_choice.proofs.RankLaws.{rank-is, rank-cycle}
 use Rattle.reading_choice.proofs.Weighing.{outweighed, weighed-chosen}
-use Rattle.live.specs.Window.{latestOf, readingAt, sumOf, livePhase}
+use Rattle.live.specs.Window.{latestOf, readingAt, sumOf, livePhase, readingsOf, sumsOf}
 use Rattle.live_passes.specs.Passes.{centreIn, tickOrSilent, keyOf, keyAt, settledFrom, settled}
+use Rattle.live.proofs.Sizes.{Sizes}
 use Rattle.live.proofs.Latest.{latest-is, reading-reads, latest-reads, middle-in}
 use Rattle.live.proofs.Sliding.{shares-fit, place-holds}
 
@@ -68,12 +68,12 @@ key-silent : (c a q s : ℕ) → q ≡ silent → keyOf c a q s ≡ noSum
 unfolding keyOf
 key-silent c a q s e = rw (unheard q e)
 
-module _ (c t : ℕ) (history : List ℕ) (hc : c ≤ liveCycle) (some-t : 0 < t) (ht : t ≤ liveLength) (good : Each (λ z. isReading c z ≡ true) history) where
+module _ (c t : ℕ) (history : List ℕ) (sizes : Sizes c t) (good : Each (λ z. isReading c z ≡ true) history) where
   abbrev readings : List ℕ
-  readings = tabulate (readingAt t history) 0 liveLength
+  readings = readingsOf t history
 
   abbrev sums : List ℕ
-  sums = tabulate (sumOf c t history) 0 liveLength
+  sums = sumsOf c t history
 
   abbrev zs : List ℕ
   zs = latestOf t history
@@ -85,12 +85,12 @@ module _ (c t : ℕ) (history : List ℕ) (hc : c ≤ liveCycle) (some-t : 0 < t
   all-read = latest-reads c t history good
 
   member : In middle zs
-  member = middle-in t history some-t
+  member = middle-in t history (sizes .some)
 
   -- the centre that the code takes, or what stands in for it
   centre-is : centreIn t readings ≡ centreHeard middle zs
   centre-is =
-      rw (place-holds (readingAt t history) (reach t) (omega arith), take-tabulate (readingAt t history) 0 t liveLength ht, ← (latest-is t history))
+      rw (place-holds (readingAt t history) (reach t) (omega arith), take-tabulate (readingAt t history) 0 t liveLength (sizes .fits), ← (latest-is t history))
 
   -- something is heard
   module _ (some : 0 < length (heard zs)) where
@@ -114,7 +114,7 @@ module _ (c t : ℕ) (history : List ℕ) (hc : c ≤ liveCycle) (some-t : 0 < t
     key-is k q h tick e =
         let was-heard : isHeard q ≡ true = tick-heard c q (omega arith) tick in
         let own : shares c q zs ≡ sum q = shares-sum c q zs was-heard in
-        let fits = shares-fit c t q history hc ht in
+        let fits = shares-fit c t q history sizes in
         rw (place-holds (readingAt t history) k (omega arith), place-holds (sumOf c t history) k (omega arith), ← e, own)
         (key-heard c a q (sum q) was-heard (omega arith) ∙ ap (λ (r : ℕ). sum q * 2 ^ 16 + r) (rank-is c a q a-tick tick (omega arith)))
 
@@ -133,7 +133,7 @@ module _ (c t : ℕ) (history : List ℕ) (hc : c ≤ liveCycle) (some-t : 0 < t
     small : (q : ℕ) → q < c → sum q * 2 ^ 16 + rank c a q < noSum
     small q tick =
         let own : shares c q zs ≡ sum q = shares-sum c q zs (tick-heard c q (omega arith) tick) in
-        omega (arith, shares-fit c t q history hc ht, rank-cycle c a q a-tick tick)
+        omega (arith, shares-fit c t q history sizes, rank-cycle c a q a-tick tick)
 
     signed : Signed (keyAt c a readings sums) t
     signed k h =
@@ -150,7 +150,7 @@ module _ (c t : ℕ) (history : List ℕ) (hc : c ≤ liveCycle) (some-t : 0 < t
 
     -- the reading with the least key
     pub found : (q : ℕ) × In q (heard zs) × (best ≡ sum q * 2 ^ 16 + rank c a q)
-    found = go (lowest-found (keyAt c a readings sums) t some-t signed)
+    found = go (lowest-found (keyAt c a readings sums) t (sizes .some) signed)
       where
         go : (k : ℕ) × (k < t) × (keyAt c a readings sums k ≡ best) → (q : ℕ) × In q (heard zs) × (best ≡ sum q * 2 ^ 16 + rank c a q)
         go p =

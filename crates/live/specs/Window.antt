@@ -45,11 +45,17 @@ resultAfter c t history = cond (ltb (length history) t) filling (resultOf (liveP
 abbrev pub sumOf : ℕ → ℕ → List ℕ → ℕ → ℕ
 sumOf c t history k = shares c (readingAt t history k) (latestOf t history)
 
+-- the two arrays, of as many places as a longest window has
+abbrev pub readingsOf : ℕ → List ℕ → List ℕ
+readingsOf t history = tabulate (readingAt t history) 0 liveLength
+
+abbrev pub sumsOf : ℕ → ℕ → List ℕ → List ℕ
+sumsOf c t history = tabulate (sumOf c t history) 0 liveLength
+
 -- a window by its five members
 abbrev pub windowOf : ℕ → ℕ → ℕ → List ℕ → List ℕ → LiveWindow
 windowOf c t filled readings sums = record { cycle = c; length = t; filled = filled; readings = readings; sums = sums }
 
 -- the window after a history; fresh, after none: "A reset makes it fresh"
 unfoldable pub liveAfter : ℕ → ℕ → List ℕ → LiveWindow
-liveAfter c t history =
-    windowOf c t (min (length history) t) (tabulate (readingAt t history) 0 liveLength) (tabulate (sumOf c t history) 0 liveLength)
+liveAfter c t history = windowOf c t (min (length history) t) (readingsOf t history) (sumsOf c t history)

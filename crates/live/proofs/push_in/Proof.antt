@@ -4,7 +4,8 @@ use borrow.Author.Needs.{needs}
 use Rattle.refusal.specs.Outcome.{Clear}
 use Rattle.refusal.proofs.Outcome.{passed-clear}
 use Rattle.live.specs.Calls.{pushRules}
-use Rattle.live.proofs.Calls.{Sizes, push-clear, push-refused, push-passed}
+use Rattle.live.proofs.Sizes.{Sizes, push-clear}
+use Rattle.live.proofs.Calls.{push-refused, push-passed}
 use Rattle.live.proofs.push_in.Statement.{statement}
 use Rattle.live.proofs.push_in.Tie as tie
 
@@ -32,7 +33,7 @@ cast-enter c = omega (arith, sizes c .cycle-fits)
 enter-requires : tie.Need-enter-requires
 enter-requires c κs =
     let k = sizes (c .before .before) in
-    (omega (arith, k .odd), omega (arith, k .fits, c .before .enter-arg .given .0 .1), omega (arith, k .fits, c .enter-arg2 .given .0 .1))
+    (k .some, omega (arith, k .fits, c .before .enter-arg .given .0 .1), omega (arith, k .fits, c .enter-arg2 .given .0 .1))
 
 told-requires : tie.Need-told-requires
 told-requires c κs =
@@ -41,7 +42,7 @@ told-requires c κs =
     record {
       cycle-some = k .cycle-some;
       cycle-fits = k .cycle-fits;
-      some = omega (arith, k .odd);
+      some = k .some;
       readings-room = omega (arith, k .fits, c .before .before .told-arg2 .given .0);
       sums-room = omega (arith, k .fits, c .told-arg4 .given .0);
     }
