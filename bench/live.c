@@ -23,7 +23,7 @@ static const char *const rows[ROWS] = {"random", "drifting", "random, one in ten
 
 static const uint32_t cycles[] = {360, 512};
 
-/* How many times as fast a push should be; 0 where nothing was asked. */
+/* How many times as fast a push should be; 0 where there is no target. */
 static const struct bar {
     uint32_t length;
     double times;

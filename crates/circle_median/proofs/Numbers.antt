@@ -7,9 +7,9 @@ use mathlib.Core.List.{List, [], _∷_, _++_}
 use native.Mathlib.Omega.{arith}
 use lib.IntN.{ℤ, pos}
 use lib.ListN.{length}
-use Rattle.refusal.specs.Outcome.{Outcome, Rule, firstDue, Numbered}
+use Rattle.refusal.specs.Outcome.{Outcome, Rule, firstDue, Clear, Numbered}
 use Rattle.refusal.specs.Outcome.Outcome.{accepted, refused}
-use Rattle.refusal.proofs.Outcome.{accepted-value}
+use Rattle.refusal.proofs.Outcome.{accepted-clear, accepted-value}
 use Rattle.refusal.proofs.Order.{due-numbered}
 use Rattle.cycle.specs.Distance.{distance}
 use Rattle.cycle.specs.Step.{step, drift, inSlot}
@@ -26,8 +26,8 @@ use Rattle.cycle.specs.Silence.{isReading}
 use Rattle.live.specs.declared.LiveWindow.{LiveWindow}
 use Rattle.live.specs.declared.FreshAnswer.the-variants.{Fresh}
 use Rattle.live.specs.Window.{LiveResult, resultAfter}
-use Rattle.live.specs.Calls.{windowRules, freshDue, Live, FreshCall}
-use Rattle.live.proofs.Order.{window-numbered}
+use Rattle.live.specs.Calls.{windowRules, pushRules, freshDue, liveTold, whetherAccepted, Live, FreshCall}
+use Rattle.live.proofs.Order.{window-numbered, push-numbered}
 use Rattle.live.proofs.Pushes.{accepted-told, accepted-live, refused-told}
 use Rattle.record_format.specs.Record.{recordLength, writeRules, writeDue}
 use Rattle.record_format.specs.Reading.{shapeIn, readRules, readDue}
@@ -122,6 +122,21 @@ unfolding freshDue
 window-fresh-zero {c} {t} call zero =
     let said = zero-accepted answerOf (λ a. a .number) (λ n k. refl) tt (windowRules c t) (window-numbered c t) (call .answer) zero in
     record { answer = sym said; window = rw said at (call .window) }
+
+-- a push that answers 0 was accepted, whatever the window: no test is due
+pub window-push-clear : {w : LiveWindow} {x : ℕ} {r : WindowAnswer} {w₁ : LiveWindow} → ExportedPushCall w x r w₁ → r .number ≡ 0
+    → Clear (pushRules (w .cycle) (w .length) x)
+window-push-clear {w} {x} {r} call zero = go (liveTold (call .told)) refl
+  where
+    rs : List Rule
+    rs = pushRules (w .cycle) (w .length) x
+
+    go : (o : Outcome LiveResult) → liveTold (call .told) ≡ o → Clear (pushRules (w .cycle) (w .length) x)
+    go (accepted v) said = accepted-clear tt rs tt (sym (call .call .tests) ∙ ap whetherAccepted said)
+    go (refused n k) said =
+        let n-is : r .number ≡ n = ap (λ (a : WindowAnswer). a .number) (call .answer) ∙ ap (λ (o : Outcome LiveResult). valueOf (lived o) .number) said in
+        let due : firstDue rs tt ≡ refused n k = sym (call .call .tests) ∙ ap whetherAccepted said in
+        absurd (omega (arith, zero, n-is, due-numbered tt rs (push-numbered (w .cycle) (w .length) x) due))
 
 -- a push into a window of ours that answers 0 was accepted: its value is that of the longer history, of which the window is live
 module _ {c t : ℕ} {history : List ℕ} {w : LiveWindow} {x : ℕ} {r : WindowAnswer} {w₁ : LiveWindow} (live : Live c t history w)

@@ -1,5 +1,5 @@
 -- How the exported functions tell an outcome in plain numbers: "number 0 means accepted"; a refusal gives its number and its place,
--- and 0 for everything else.
+-- and 0 for everything else but the count of a live window, which stays.
 use Prim.Native.Nat.{ℕ, _^_, _<_}
 use mathlib.Core.Bool.{Bool, cond}
 use lib.IntN.{ℤ, pos, negsuc}

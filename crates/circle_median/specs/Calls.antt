@@ -36,7 +36,7 @@ pub record ExportedReadCall (bytes readings₀ : List ℕ) (r : RecordAnswer) (r
   pub answer : r ≡ recordOf (readDue bytes (length readings₀))
   pub memory : readings₁ ≡ after (readDue bytes (length readings₀)) (λ s. atFront (imageIn bytes) readings₀) readings₀
 
--- the arrays of a live window made fresh: a window w₁, of C and T and nothing pushed, of w
+-- the arrays of a live window made fresh: w as they were, w₁ as they are, each with C, T and a count of 0
 pub record ExportedFreshCall (c t : ℕ) (w : LiveWindow) (r : Answer) (w₁ : LiveWindow) : Type 0 where
   pub answer : r ≡ answerOf (freshDue c t)
   pub window : w₁ ≡ after (freshDue c t) (λ u. liveAfter c t []) w

@@ -16,7 +16,7 @@ silent = 65535
 unfoldable pub isHeard : ℕ → Bool
 isHeard z = not (eqb z silent)
 
--- x is a reading that an image, a row or a record may hold: a tick of the cycle, or silent
+-- x is a reading that an image, a row, a record or a live window may hold: a tick of the cycle, or silent
 unfoldable pub isReading : ℕ → ℕ → Bool
 isReading c x = isTick c x || eqb x silent
 

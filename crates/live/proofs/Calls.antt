@@ -1,4 +1,4 @@
--- Laws of the calls of the live window: what acceptance says, and that what the code does is what the calls promise. Assumes nothing.
+-- What the code of the live window's calls does is what the calls promise. Assumes nothing.
 use Prim.Native.Nat.{ℕ, _+_, _<_, min}
 use mathlib.Core.Path.{_≡_, refl, ap, sym, _∙_}
 use mathlib.Core.Bool.{true, cond}
@@ -12,7 +12,7 @@ use Rattle.lists.specs.Members.{Each}
 use Rattle.lists.proofs.Members.{each-append}
 use Rattle.refusal.specs.Limits.{liveLength}
 use Rattle.refusal.specs.Outcome.{firstDue, Clear, verdict}
-use Rattle.refusal.specs.Outcome.Outcome.{accepted}
+use Rattle.refusal.specs.Outcome.Outcome.{accepted, refused}
 use Rattle.refusal.specs.declared.Verdict.{Verdict}
 use Rattle.refusal.specs.declared.Verdict.the-variants.{Passed, Refused}
 use Rattle.refusal.specs.declared.Refusal.{Refusal}
@@ -26,11 +26,11 @@ use Rattle.live.specs.declared.LiveAnswer.the-variants as live
 use Rattle.live.specs.Window.{readingAt, sumOf, livePhase, resultOf, resultAfter, readingsOf, sumsOf, windowOf, liveAfter}
 use Rattle.live.specs.Window.LiveResult.{filling}
 use Rattle.live.specs.Calls.{windowRules, pushRules, freshDue, pushDue, liveTold, Live, FreshCall, PushCall}
-use Rattle.live_passes.specs.Passes.{enteredReading, enteredSum, settled}
+use Rattle.live_passes.specs.Passes.{enteredReading, enteredSum, phaseIn}
 use Rattle.live.specs.Told.{resultBy}
 use Rattle.live.proofs.Sizes.{Sizes, push-clear}
 use Rattle.live.proofs.Arrays.{all-one, fresh-reading, fresh-sum, readings-entered, sums-entered}
-use Rattle.live.proofs.Settled.{settled-live}
+use Rattle.live.proofs.Found.{phase-found}
 
 -- a window with nothing pushed
 pub empty-window : (c t : ℕ) → windowOf c t 0 (replicate liveLength silent) (replicate liveLength 0) ≡ liveAfter c t []
@@ -51,8 +51,12 @@ module _ {c t : ℕ} {old : LiveWindow} {r : Verdict} (said : verdict r ≡ firs
   unfolding freshDue
   fresh-passed e is = record { answer = sym (clear-accepted tt (windowRules c t) (passed-clear (windowRules c t) said e)); window = is }
 
+-- accepted is not refused
+not-refused : {A C : Type 0} {v : A} {n k : ℕ} → accepted v ≡ refused n k → C
+not-refused said = let z : _≡_ {A = ℕ} 0 1 = cc in absurd (omega arith)
+
 -- a window of ours has its own C and T
-live-own : {c t : ℕ} {history : List ℕ} {w : LiveWindow} → Live c t history w → (w .cycle ≡ c) × (w .length ≡ t)
+pub live-own : {c t : ℕ} {history : List ℕ} {w : LiveWindow} → Live c t history w → (w .cycle ≡ c) × (w .length ≡ t)
 unfolding liveAfter
 live-own l = (ap (λ (w : LiveWindow). w .cycle) (l .is), ap (λ (w : LiveWindow). w .length) (l .is))
 
@@ -62,7 +66,8 @@ pub push-refused : (w : LiveWindow) (x : ℕ) {r : Verdict} {f : Refusal} → ve
 unfolding pushDue
 push-refused w x said e = record {
   tests = sym (refused-alone (pushRules (w .cycle) (w .length) x) said tt e);
-  kept = refl;
+  numbers = (refl, refl);
+  unchanged = λ n k said. refl;
   answer = λ c t history l.
       let own = live-own l in
       rw (← (own .0), ← (own .1)) (sym (refused-alone (pushRules (w .cycle) (w .length) x) said (resultAfter (w .cycle) (w .length) (history ++ (x ∷ []))) e));
@@ -84,7 +89,7 @@ pub record EnteredBy (c t filled x : ℕ) (readings sums : List ℕ) (told : Liv
   pub into-readings : Changed readings readings₁ 0 t (enteredReading x t readings)
   pub into-sums : Changed sums sums₁ 0 t (enteredSum c x t readings sums)
   pub count : filled₁ ≡ min (filled + 1) t
-  pub answer : liveTold told ≡ accepted (resultBy t filled₁ (settled c t readings₁ sums₁))
+  pub answer : liveTold told ≡ accepted (resultBy t filled₁ (phaseIn c t readings₁ sums₁))
 
 module _ {c t filled x : ℕ} {readings sums : List ℕ} {told : LiveAnswer} {filled₁ : ℕ} {readings₁ sums₁ : List ℕ}
     (e : EnteredBy c t filled x readings sums told filled₁ readings₁ sums₁) where
@@ -135,14 +140,15 @@ module _ {c t filled x : ℕ} {readings sums : List ℕ} {told : LiveAnswer} {fi
     told-now : liveTold told ≡ accepted (resultAfter c t more)
     told-now =
         e .answer
-        ∙ rw (readings-now, sums-now) (rw (settled-live c t more sizes good)
+        ∙ rw (readings-now, sums-now) (rw (phase-found c t more sizes good)
         (ap accepted (result-after c t (length history + 1) filled₁ more length-more filled-now)))
 
   pub push-passed : PushCall (windowOf c t filled readings sums) x told (windowOf c t filled₁ readings₁ sums₁)
   unfolding pushDue
   push-passed = record {
     tests = rw (e .answer) (sym (clear-accepted tt (pushRules c t x) (e .tested)));
-    kept = rw (e .answer);
+    numbers = (refl, refl);
+    unchanged = λ n k said. not-refused (sym (e .answer) ∙ said);
     answer = λ c′ t′ history l.
         let own = live-own l in
         rw (← (own .0), ← (own .1))

@@ -2,7 +2,7 @@ pub mod Sizes
 pub mod Latest
 pub mod Sliding
 pub mod Arrays
-pub mod Settled
+pub mod Found
 pub mod Closest
 pub mod Calls
 pub mod Order

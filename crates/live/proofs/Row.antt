@@ -25,7 +25,7 @@ use Rattle.cycle.proofs.SilenceLaws.{tick-reading}
 use Rattle.shape.specs.Rules.{reach}
 use Rattle.shape.specs.declared.Shape.{Shape}
 use Rattle.window.specs.Mirror.{mirror}
-use Rattle.window.specs.Window.{padded, stretch, block, window, centre}
+use Rattle.window.specs.Window.{padded, block, window, centre}
 use Rattle.window.specs.Phase.{phase}
 use Rattle.window.proofs.Mirror.{mirror-below, mirror-middle}
 use Rattle.filter.specs.declared.Engine.{Engine}
@@ -42,7 +42,7 @@ use Rattle.live.specs.Calls.{liveTold, FreshCall}
 use Rattle.live.specs.Pushes.{Pushes, rowShape}
 use Rattle.live.proofs.Latest.{reading-place, latest-is}
 use Rattle.live.proofs.Sizes.{Sizes, window-clear}
-use Rattle.live.proofs.Pushes.{fresh-live, due-accepted, pushes-told}
+use Rattle.live.proofs.Pushes.{fresh-live, push-due-accepted, pushes-told}
 
 module _ (c t : ℕ) (row : List ℕ) (k : ℕ) (odd : t ≡ 2 * reach t + 1) (from : t ≤ k + 1) (upto : k < length row) where
   abbrev s : Shape
@@ -105,7 +105,7 @@ module _ {c t : ℕ} {old w w₁ : LiveWindow} {row : List ℕ} {answers : List 
       let reads : isReading c (getD row k 0) ≡ true = each-getD (λ x. isReading c x ≡ true) row k good (tick-reading c 0 (sizes .cycle-some)) in
       let whole : take k row ++ (getD row k 0 ∷ []) ≡ take (k + 1) row = rw (add-one k) (sym (take-suc row k 0 h)) in
       pushes-told (fresh-live fresh) pushes k d h
-      ∙ rw (all, ← whole) (due-accepted c t (take k row) (getD row k 0) (fresh-live fresh .tested) reads)
+      ∙ rw (all, ← whole) (push-due-accepted c t (take k row) (getD row k 0) (fresh-live fresh .tested) reads)
 
   length-front : (k : ℕ) → k < length row → length (take (k + 1) row) ≡ k + 1
   length-front k h = length-take-le (k + 1) row (omega arith)

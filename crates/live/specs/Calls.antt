@@ -6,7 +6,7 @@ use mathlib.Core.List.{List, [], _∷_, _++_}
 use Rattle.lists.specs.Members.{Each}
 use Rattle.refusal.specs.Limits.{liveCycle, liveLength}
 use Rattle.refusal.specs.Outcome.{Outcome, Rule, rule, firstDue, Clear, refusal, andThen, after}
-use Rattle.refusal.specs.Outcome.Outcome.{accepted}
+use Rattle.refusal.specs.Outcome.Outcome.{accepted, refused}
 use Rattle.cycle.specs.Calls.{cycleRules}
 use Rattle.cycle.specs.Silence.{isReading}
 use Rattle.shape.specs.Rules.{sideRules}
@@ -26,6 +26,7 @@ windowRules c t = cycleRules liveCycle c ++ sideRules liveLength t
 abbrev pub newestRule : ℕ → ℕ → Rule
 newestRule c x = rule (not (isReading c x)) 9 0
 
+-- the tests of a push: "1, then 3" on the window's own numbers, then 9
 abbrev pub pushRules : ℕ → ℕ → ℕ → List Rule
 pushRules c t x = windowRules c t ++ (newestRule c x ∷ [])
 
@@ -69,10 +70,11 @@ abbrev pub noWindow : LiveWindow
 noWindow = liveAfter 0 0 []
 
 -- A reading x pushed into window w, which w₁ comes of. Of every window, ours or not: the reading is refused exactly by the first test that
--- is due on the window's own numbers, and a refusal "leaves the window as it was". Of ours: the answer and the window are those of the
--- history with the reading added.
+-- is due on the window's own C and T, which stay, and a refusal "leaves the window as it was". Of ours: the answer and the window are those
+-- of the history with the reading added.
 pub record PushCall (w : LiveWindow) (x : ℕ) (r : LiveAnswer) (w₁ : LiveWindow) : Type 0 where
   pub tests : whetherAccepted (liveTold r) ≡ firstDue (pushRules (w .cycle) (w .length) x) tt
-  pub kept : w₁ ≡ after (liveTold r) (λ u. w₁) w
+  pub numbers : (w₁ .cycle ≡ w .cycle) × (w₁ .length ≡ w .length)
+  pub unchanged : (n k : ℕ) → liveTold r ≡ refused n k → w₁ ≡ w
   pub answer : (c t : ℕ) (history : List ℕ) → Live c t history w → liveTold r ≡ pushDue c t history x
   pub window : (c t : ℕ) (history : List ℕ) → Live c t history w → w₁ ≡ after (liveTold r) (λ u. liveAfter c t (history ++ (x ∷ []))) w

@@ -56,6 +56,6 @@ sumsOf c t history = tabulate (sumOf c t history) 0 liveLength
 abbrev pub windowOf : ℕ → ℕ → ℕ → List ℕ → List ℕ → LiveWindow
 windowOf c t filled readings sums = record { cycle = c; length = t; filled = filled; readings = readings; sums = sums }
 
--- the window after a history; fresh, after none: "A reset makes it fresh"
+-- the window after a history; fresh, after none: "a reset makes it fresh"
 unfoldable pub liveAfter : ℕ → ℕ → List ℕ → LiveWindow
 liveAfter c t history = windowOf c t (min (length history) t) (readingsOf t history) (sumsOf c t history)

@@ -6,7 +6,7 @@ mod verdicts;
 
 use cycle::SILENT;
 use live_passes::enter;
-use live_passes::settle;
+use live_passes::phase_in;
 use refusal::Refusal;
 use refusal::Verdict;
 use refusal::limits::LIVE_LENGTH;
@@ -16,7 +16,7 @@ ghost use mathlib.Core.Path.{_≡_};
 ghost use mathlib.Core.List.{[]};
 ghost use Prim.Native.Nat.{_+_, min};
 ghost use Rattle.refusal.specs.Outcome.Outcome.{accepted};
-ghost use Rattle.live_passes.specs.Passes.{Settleable, settled};
+ghost use Rattle.live_passes.specs.Passes.{Searchable, phaseIn};
 ghost use Rattle.live.specs.Window.{windowOf, resultOf, liveAfter};
 ghost use Rattle.live.specs.Calls.{noWindow, liveTold, FreshCall, PushCall};
 ghost use Rattle.live.specs.Told.{resultBy};
@@ -152,13 +152,13 @@ fn answer_of(phase: u16) -> LiveAnswer
 
 // The answer of a window of n in which so many readings are: no phase is looked for while it fills.
 fn told(cycle: u32, n: u32, filled: u32, readings: &[u16], sums: &[u16]) -> LiveAnswer
-    requires { ⌜ Settleable cycle n (now readings) (now sums) ⌝ }
-    ensures { λ r. ⌜ liveTold r ≡ accepted (resultBy n filled (settled cycle n (now (readings .entry)) (now (sums .entry)))) ⌝ }
+    requires { ⌜ Searchable cycle n (now readings) (now sums) ⌝ }
+    ensures { λ r. ⌜ liveTold r ≡ accepted (resultBy n filled (phaseIn cycle n (now (readings .entry)) (now (sums .entry)))) ⌝ }
 {
     if filled < n {
         return LiveAnswer::Filling;
     }
-    answer_of(settle(cycle, n as usize, readings, sums))
+    answer_of(phase_in(cycle, n as usize, readings, sums))
 }
 
 // Pushes a reading into a window's arrays.

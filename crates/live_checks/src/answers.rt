@@ -11,7 +11,7 @@ const FILLING: u32 = 1;
 
 const PHASE: u32 = 2;
 
-const SILENT: u32 = 3;
+const NONE_HEARD: u32 = 3;
 
 const REFUSED: u32 = 4;
 
@@ -56,7 +56,7 @@ pub fn live_said(told: LiveAnswer) -> Said {
             number: p as u32,
             place: 0,
         },
-        LiveAnswer::Silent => plain(SILENT),
+        LiveAnswer::Silent => plain(NONE_HEARD),
         LiveAnswer::Refused(r) => refused(r),
     }
 }
@@ -93,7 +93,7 @@ pub fn say_said(said: Said) {
         say(b"filling");
     } else if said.kind == PHASE {
         say_number(said.number as u64);
-    } else if said.kind == SILENT {
+    } else if said.kind == NONE_HEARD {
         say(b"silent");
     } else if said.kind == ANSWERED {
         say(b"answered");

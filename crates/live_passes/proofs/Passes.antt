@@ -16,7 +16,7 @@ use Rattle.memory.specs.Memory.{Changed, noSum, lowest}
 use Rattle.memory.proofs.Memory.{changed-is, changed-turn-first, changed-done}
 use Rattle.reading_choice.specs.Ranks.{wayTo, rankBy, rankOf, phaseBy}
 use Rattle.reading_choice.proofs.RankLaws.{one-more}
-use Rattle.live_passes.specs.Passes.{distanceTo, slid, distancesTo, centreIn, tickOrSilent, keyOf, keyAt, settledFrom, settled}
+use Rattle.live_passes.specs.Passes.{distanceTo, slid, distancesTo, centreIn, tickOrSilent, keyOf, keyAt, phaseFrom, phaseIn}
 
 -- a number that l added to wraps back to n
 wraps-back : (n l r : ℕ) → (r + l) % 2 ^ 16 ≡ n % 2 ^ 16 → r < 2 ^ 16 → l < 2 ^ 16 → r ≡ (n + (2 ^ 16 - l)) % 2 ^ 16
@@ -71,8 +71,8 @@ reading-of c q {r} e = go (decLt q c)
     go (no h) = rw (e, le-ltb q c (omega arith)) (silent-reading c silent refl)
 
 -- the phase by the steps in which the code finds it: middle or stand-in m, centre a, least key, rank r
-pub settled-by : (c t : ℕ) (readings sums : List ℕ) {m a k r p : ℕ} → m ≡ centreIn t readings → a ≡ tickOrSilent c m → k ≡ lowest (keyAt c a readings sums) t
+pub phase-by-steps : (c t : ℕ) (readings sums : List ℕ) {m a k r p : ℕ} → m ≡ centreIn t readings → a ≡ tickOrSilent c m → k ≡ lowest (keyAt c a readings sums) t
     → r ≡ min (k % 2 ^ 16) c → p ≡ phaseBy c a r
-    → p ≡ settled c t readings sums
-unfolding settledFrom
-settled-by c t readings sums m a k r p = p ∙ rw (r, k, a, m)
+    → p ≡ phaseIn c t readings sums
+unfolding phaseFrom
+phase-by-steps c t readings sums m a k r p = p ∙ rw (r, k, a, m)

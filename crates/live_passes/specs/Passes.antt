@@ -36,8 +36,8 @@ enteredReading x t readings k = cond (ltb k (t - 1)) (behind readings k) x
 abbrev pub enteredSum : ℕ → ℕ → ℕ → List ℕ → List ℕ → ℕ → ℕ
 enteredSum c x t readings sums k = cond (ltb k (t - 1)) (slid c x readings sums k) (distancesTo c x readings (t - 1))
 
--- a window of n readings, on a cycle that a live window takes, may be looked at
-pub record Settleable (c n : ℕ) (readings sums : List ℕ) : Type 0 where
+-- a window of n readings, on a cycle that a live window takes, may be searched for its phase
+pub record Searchable (c n : ℕ) (readings sums : List ℕ) : Type 0 where
   pub cycle-some : 0 < c
   pub cycle-fits : c ≤ liveCycle
   pub some : 0 < n
@@ -60,8 +60,8 @@ abbrev pub keyAt : ℕ → ℕ → List ℕ → List ℕ → ℕ → ℕ
 keyAt c a readings sums k = keyOf c a (getD readings k 0) (getD sums k 0)
 
 -- the phase by the centre a: the one whose rank is in the least key
-unfoldable pub settledFrom : ℕ → ℕ → ℕ → List ℕ → List ℕ → ℕ
-settledFrom c t a readings sums = phaseBy c a (min (lowest (keyAt c a readings sums) t % 2 ^ 16) c)
+unfoldable pub phaseFrom : ℕ → ℕ → ℕ → List ℕ → List ℕ → ℕ
+phaseFrom c t a readings sums = phaseBy c a (min (lowest (keyAt c a readings sums) t % 2 ^ 16) c)
 
-abbrev pub settled : ℕ → ℕ → List ℕ → List ℕ → ℕ
-settled c t readings sums = settledFrom c t (tickOrSilent c (centreIn t readings)) readings sums
+abbrev pub phaseIn : ℕ → ℕ → List ℕ → List ℕ → ℕ
+phaseIn c t readings sums = phaseFrom c t (tickOrSilent c (centreIn t readings)) readings sums

@@ -12,7 +12,7 @@ ghost use Prim.Native.Nat.{_≤_, _<_};
 ghost use lib.ListN.{length, take};
 ghost use Rattle.cycle.specs.Silence.{isHeard, firstHeard};
 ghost use Rattle.memory.specs.Memory.{noSum, lowest};
-ghost use Rattle.live_passes.specs.Passes.{Settleable, centreIn, tickOrSilent, keyOf, keyAt, settled};
+ghost use Rattle.live_passes.specs.Passes.{Searchable, centreIn, tickOrSilent, keyOf, keyAt, phaseIn};
 
 // The first heard reading of a window of n; silent if there is none.
 fn first_heard(readings: &[u16], n: usize) -> u16
@@ -79,9 +79,9 @@ fn least_key(cycle: u16, centre: u16, n: usize, readings: &[u16], sums: &[u16]) 
 }
 
 // The phase of a window of n readings.
-pub fn settle(cycle: u32, n: usize, readings: &[u16], sums: &[u16]) -> u16
-    requires { ⌜ Settleable cycle n (now readings) (now sums) ⌝ }
-    ensures { λ r. ⌜ r ≡ settled cycle n (now (readings .entry)) (now (sums .entry)) ⌝ }
+pub fn phase_in(cycle: u32, n: usize, readings: &[u16], sums: &[u16]) -> u16
+    requires { ⌜ Searchable cycle n (now readings) (now sums) ⌝ }
+    ensures { λ r. ⌜ r ≡ phaseIn cycle n (now (readings .entry)) (now (sums .entry)) ⌝ }
 {
     let centre = tick_or_silent(cycle, centre_of(readings, n));
     let key = least_key(cycle as u16, centre, n, readings, sums);

@@ -3,5 +3,5 @@
 mod choice;
 mod sums;
 
-pub use choice::settle;
+pub use choice::phase_in;
 pub use sums::enter;

@@ -5,8 +5,8 @@
 // Standard input holds one case to a line, which is printed before its answers. `live` has the C and T of a new window,
 // and after a colon the readings pushed, with the word `reset` among them; after the answers stands what the window
 // holds. `row` has readings alone, all accepted, which both engines filter too. `forged` has C, T and the count of a
-// window, and after commas its readings and its sums: of such a window it is printed only whether a push is refused,
-// until a reset has made it fresh. At last stands what was counted.
+// window, and after commas its readings and its sums: they are printed as they were understood, and of such a window
+// only whether a push is refused, until a reset has made it fresh. At last stands what was counted.
 mod rows;
 
 use live::LiveWindow;
@@ -78,7 +78,8 @@ fn forged_line(tally: Tally, line: &[u8]) -> Tally {
         ours: false,
         tally,
     };
-    say(b" forged");
+    say(b" ");
+    say_window(window);
     let done = run_words(run, &line[colon..]);
     done.tally
 }

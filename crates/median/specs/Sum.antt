@@ -13,7 +13,7 @@ unfoldable pub sumAt : ℕ → ℕ → List ℕ → ℕ
 sumAt c p [] = 0
 sumAt c p (z ∷ zs) = distance c p z + sumAt c p zs
 
--- what a reading z adds to the engines' sum at a reading q: its distance. "A silent reading has no distance and adds to no sum" (document
+-- what a reading z adds to the sum that an engine or a live window keeps at a reading q: its distance. "A silent reading has no distance and adds to no sum" (document
 -- 02, T-01).
 unfoldable pub share : ℕ → ℕ → ℕ → ℕ
 share c q z = cond (isHeard q && isHeard z) (distance c q z) 0
@@ -23,7 +23,7 @@ share c q z = cond (isHeard q && isHeard z) (distance c q z) 0
 abbrev pub isShort : ℕ → Bool
 isShort c = leb c (2 ^ 15)
 
--- the engines' sum at a reading; `shares-sum`: at a tick it is `sumAt` of the heard ones
+-- the sum that an engine or a live window keeps at a reading; `shares-sum`: at a tick it is `sumAt` of the heard ones
 abbrev pub shares : ℕ → ℕ → List ℕ → ℕ
 shares c q = total (share c q)
 

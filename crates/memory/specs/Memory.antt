@@ -1,4 +1,5 @@
--- Parts of lent memory, by the numbers that they hold. Internal to the engines: nothing that a caller sees speaks of these.
+-- Parts of lent memory, by the numbers that they hold. Internal to the engines and the live window: nothing that a caller sees speaks
+-- of these.
 use Prim.Native.Nat.{ℕ, zero, suc, _+_, _^_, _-_, _≤_, _<_, min}
 use mathlib.Core.Path.{_≡_}
 use mathlib.Core.List.{List}

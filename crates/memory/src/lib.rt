@@ -1,6 +1,6 @@
 // Operations on parts of lent memory, for the engines' sums and differences: each is one loop without
 // a branch over contiguous numbers, so that it compiles to packed instructions. Internal: each has a
-// `requires`, which every engine meets.
+// `requires`, which every engine meets; `lower` serves the live window too.
 use std::num::wrapping_add_u32;
 use std::num::wrapping_sub_u32;
 ghost use mathlib.Core.Path.{_≡_};

@@ -1,4 +1,5 @@
--- What the passes of the reading engine's choice leave at each place. Internal to the engine.
+-- What the passes of the reading engine's choice leave at each place. Internal to the engine, and to the live window, which takes ranks and
+-- phases from here.
 use Prim.Native.Nat.{ℕ, _+_, _-_, _*_, _/_, _%_, _^_, min}
 use mathlib.Core.Bool.{Bool, cond, _&&_, _||_}
 use mathlib.Core.List.{List}

@@ -1,5 +1,5 @@
-// The cycle, the sizes of an image and the sides of a mask, the tests on them that the filters, the reader
-// and the writer share, and the work memory that each engine needs. All are total but `reading_need`, which
+// The cycle, the sizes of an image and the sides of a mask, the tests on them that the filters, the reader,
+// the writer and the live window share, and the work memory that each engine needs. All are total but `reading_need`, which
 // is internal: its `requires` is met by the tests before.
 use cycle::cycle_verdict;
 use refusal::Refusal;

@@ -12,7 +12,7 @@ returns-2 : tie.Need-returns-2
 returns-2 c =
     let t = c .before in
     let a = t .before .before .before .before .args in
-    c .answer-of .ensures ∙ rw (t .settle .ensures, le-ltb (a .filled) (a .n) (t .before .if1 .left))
+    c .answer-of .ensures ∙ rw (t .phase-in .ensures, le-ltb (a .filled) (a .n) (t .before .if1 .left))
 
 pub told-spec : {M : Type 1} → statement M
 told-spec = tie.close (tie.spec returns (λ c κs. search needs) (λ c κs. search needs) returns-2)

@@ -30,7 +30,7 @@ use Rattle.reading_choice.specs.Weighed.{Weighed}
 use Rattle.reading_choice.proofs.RankLaws.{rank-is, rank-cycle}
 use Rattle.reading_choice.proofs.Weighing.{outweighed, weighed-chosen}
 use Rattle.live.specs.Window.{latestOf, readingAt, sumOf, livePhase, readingsOf, sumsOf}
-use Rattle.live_passes.specs.Passes.{centreIn, tickOrSilent, keyOf, keyAt, settledFrom, settled}
+use Rattle.live_passes.specs.Passes.{centreIn, tickOrSilent, keyOf, keyAt, phaseFrom, phaseIn}
 use Rattle.live.proofs.Sizes.{Sizes}
 use Rattle.live.proofs.Latest.{latest-is, reading-reads, latest-reads, middle-in}
 use Rattle.live.proofs.Sliding.{shares-fit, place-holds}
@@ -51,9 +51,9 @@ lower-key s u r v m h g l = go (decLt s u)
         let product : s * m ≡ u * m = ap (λ (n : ℕ). n * m) same in
         omega arith
 
-settled-none : (c t : ℕ) {a : ℕ} (readings sums : List ℕ) → a ≡ silent → settledFrom c t a readings sums ≡ silent
-unfolding settledFrom phaseBy
-settled-none c t {a} readings sums e = rw (unheard a e)
+none-found : (c t : ℕ) {a : ℕ} (readings sums : List ℕ) → a ≡ silent → phaseFrom c t a readings sums ≡ silent
+unfolding phaseFrom phaseBy
+none-found c t {a} readings sums e = rw (unheard a e)
 
 phase-heard : (c a r : ℕ) → isHeard a ≡ true → phaseBy c a r ≡ tickOf c a r
 unfolding phaseBy
@@ -171,9 +171,9 @@ module _ (c t : ℕ) (history : List ℕ) (sizes : Sizes c t) (good : Each (λ z
               small a a-tick,
             )))
 
-    settled-some : settledFrom c t a readings sums ≡ chosen c a (heard zs)
-    unfolding settledFrom key
-    settled-some =
+    some-found : phaseFrom c t a readings sums ≡ chosen c a (heard zs)
+    unfolding phaseFrom key
+    some-found =
         let f = found in
         let q = f .0 in
         let tick : q < c = each-in (λ z. z < c) q (heard zs) ticks (f .1) in
@@ -188,19 +188,19 @@ module _ (c t : ℕ) (history : List ℕ) (sizes : Sizes c t) (good : Each (λ z
         rw kept
         (phase-heard c a (rank c a q) (tick-heard c a (omega arith) a-tick) ∙ weighed-chosen c a (heard zs) ticks a-in sum (λ p i. refl) weighed)
 
-  pub settled-live : settled c t readings sums ≡ livePhase c t history
+  pub phase-found : phaseIn c t readings sums ≡ livePhase c t history
   unfolding livePhase
-  settled-live = go (heard zs) refl
+  phase-found = go (heard zs) refl
     where
       -- the centre that the code takes is a reading
-      from : isReading c (centreHeard middle zs) ≡ true → {p : ℕ} → settledFrom c t (centreHeard middle zs) readings sums ≡ p
-          → settled c t readings sums ≡ p
+      from : isReading c (centreHeard middle zs) ≡ true → {p : ℕ} → phaseFrom c t (centreHeard middle zs) readings sums ≡ p
+          → phaseIn c t readings sums ≡ p
       from reads e = rw (centre-is, tick-or-silent c (centreHeard middle zs) (omega arith) reads) e
 
-      go : (l : List ℕ) → heard zs ≡ l → settled c t readings sums ≡ phaseOf c middle zs
+      go : (l : List ℕ) → heard zs ≡ l → phaseIn c t readings sums ≡ phaseOf c middle zs
       go [] e =
           let d = stand-in-none c middle zs all-read member e in
-          from (silent-reading c _ d) (settled-none c t readings sums d ∙ sym (of-none c middle zs all-read member e))
+          from (silent-reading c _ d) (none-found c t readings sums d ∙ sym (of-none c middle zs all-read member e))
       go (z ∷ l) e =
           let some : 0 < length (heard zs) = rw e (omega arith) in
-          from (tick-reading c _ (a-tick some)) (settled-some some ∙ sym (of-chosen c middle zs all-read member some))
+          from (tick-reading c _ (a-tick some)) (some-found some ∙ sym (of-chosen c middle zs all-read member some))

@@ -1,9 +1,9 @@
--- `live_passes::choice::settle` meets its contract. Assumes nothing.
+-- `live_passes::choice::phase_in` meets its contract. Assumes nothing.
 use native.Mathlib.Omega.{arith}
 use borrow.Author.Needs.{needs}
-use Rattle.live_passes.proofs.Passes.{reading-of, settled-by}
-use Rattle.live_passes.proofs.choice.settle.Statement.{statement}
-use Rattle.live_passes.proofs.choice.settle.Tie as tie
+use Rattle.live_passes.proofs.Passes.{reading-of, phase-by-steps}
+use Rattle.live_passes.proofs.choice.phase_in.Statement.{statement}
+use Rattle.live_passes.proofs.choice.phase_in.Tie as tie
 
 -- the centre is found, and where the call began
 abbrev centred : tie.After-least → tie.After-tick-or-silent
@@ -23,11 +23,11 @@ returns c =
     let l = c .before in
     let t = centred l in
     let a = start t .args in
-    settled-by (a .cycle) (a .n) (a .readings .now) (a .sums .now) (t .before .centre-of .ensures) (t .tick-or-silent .ensures)
+    phase-by-steps (a .cycle) (a .n) (a .readings .now) (a .sums .now) (t .before .centre-of .ensures) (t .tick-or-silent .ensures)
     (l .before .least-key .ensures) (l .least .ensures) (c .phase-by .ensures)
 
-pub settle-spec : {M : Type 1} → statement M
-settle-spec =
+pub phase-in-spec : {M : Type 1} → statement M
+phase-in-spec =
     tie.close
     (tie.spec
     (λ c κs. search needs)
