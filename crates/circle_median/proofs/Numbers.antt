@@ -2,11 +2,12 @@
 -- what is proved of accepted calls holds of it. Over the contracts of the exported functions alone. Assumes nothing.
 use Prim.Native.Nat.{ℕ}
 use mathlib.Core.Path.{_≡_, refl, ap, sym, _∙_}
-use mathlib.Core.Bool.{Bool, true, false, cond}
+use mathlib.Core.Bool.{true, cond}
 use mathlib.Core.List.{List, [], _∷_, _++_}
 use native.Mathlib.Omega.{arith}
 use lib.IntN.{ℤ, pos}
 use lib.ListN.{length}
+use Rattle.lists.proofs.Keep.{passes-or-not}
 use Rattle.refusal.specs.Outcome.{Outcome, Rule, firstDue, Clear, Numbered}
 use Rattle.refusal.specs.Outcome.Outcome.{accepted, refused}
 use Rattle.refusal.proofs.Outcome.{accepted-clear, accepted-value}
@@ -142,13 +143,10 @@ window-push-clear {w} {x} {r} call zero = go (liveTold (call .told)) refl
 module _ {c t : ℕ} {history : List ℕ} {w : LiveWindow} {x : ℕ} {r : WindowAnswer} {w₁ : LiveWindow} (live : Live c t history w)
     (call : ExportedPushCall w x r w₁) (zero : r .number ≡ 0) where
   reads : isReading c x ≡ true
-  reads = go (isReading c x) refl
-    where
-      go : (b : Bool) → isReading c x ≡ b → isReading c x ≡ true
-      go true e = e
-      go false e =
-          let told : r .number ≡ 9 = ap (λ (a : WindowAnswer). a .number) (call .answer) ∙ ap (λ (o : Outcome LiveResult). valueOf (lived o) .number) (refused-told live (call .call) e) in
-          absurd (omega arith)
+  reads = passes-or-not (isReading c) x (λ e. e) (λ e.
+      let told : r .number ≡ 9 =
+      ap (λ (a : WindowAnswer). a .number) (call .answer) ∙ ap (λ (o : Outcome LiveResult). valueOf (lived o) .number) (refused-told live (call .call) e) in
+      absurd (omega arith))
 
   pub window-push-zero : (r .value ≡ liveValue (resultAfter c t (history ++ (x ∷ [])))) × Live c t (history ++ (x ∷ [])) w₁
   window-push-zero = (

@@ -20,8 +20,8 @@ module _ {A : Type 0} (good : A → Bool) where
   keep-no x xs e = rw e
 
   -- the test of an element, with its equation
-  case : {C : Type 0} (x : A) → (good x ≡ true → C) → (good x ≡ false → C) → C
-  case {C} x t f = go (good x) refl
+  pub passes-or-not : {C : Type 0} (x : A) → (good x ≡ true → C) → (good x ≡ false → C) → C
+  passes-or-not {C} x t f = go (good x) refl
     where
       go : (b : Bool) → good x ≡ b → C
       go true e = t e
@@ -32,7 +32,7 @@ module _ {A : Type 0} (good : A → Bool) where
   keep-append [] ys = refl
   keep-append (x ∷ xs) ys =
       let r = keep-append xs ys in
-      case x (λ e. rw (e, r)) (λ e. rw (e, r))
+      passes-or-not x (λ e. rw (e, r)) (λ e. rw (e, r))
 
   -- an element that passes is kept
   pub in-keep : (y : A) (xs : List A) → good y ≡ true → In y xs → In y (keep good xs)
@@ -40,7 +40,7 @@ module _ {A : Type 0} (good : A → Bool) where
   in-keep y (x ∷ xs) g (inl e) = rw (keep-yes x xs (subst (λ (z : A). good z ≡ true) e g)) (inl e)
   in-keep y (x ∷ xs) g (inr i) =
       let r = in-keep y xs g i in
-      case x (λ e. rw (keep-yes x xs e) (inr r)) (λ e. rw (keep-no x xs e) r)
+      passes-or-not x (λ e. rw (keep-yes x xs e) (inr r)) (λ e. rw (keep-no x xs e) r)
 
   -- and one that is kept is an element
   pub keep-in : (y : A) (xs : List A) → In y (keep good xs) → In y xs
@@ -48,7 +48,7 @@ module _ {A : Type 0} (good : A → Bool) where
   keep-in y [] i = absurd i
   keep-in y (x ∷ xs) i =
       let r = keep-in y xs in
-      case x (λ e. ⊎-elim inl (λ j. inr (r j)) (rw (keep-yes x xs e) at i)) (λ e. inr (r (rw (keep-no x xs e) at i)))
+      passes-or-not x (λ e. ⊎-elim inl (λ j. inr (r j)) (rw (keep-yes x xs e) at i)) (λ e. inr (r (rw (keep-no x xs e) at i)))
 
   -- what holds of each element that passes holds of each that is kept
   pub each-keep : (P : A → Type 0) (xs : List A) → Each (λ x. good x ≡ true → P x) xs → Each P (keep good xs)
@@ -56,7 +56,7 @@ module _ {A : Type 0} (good : A → Bool) where
   each-keep P [] e = tt
   each-keep P (x ∷ xs) e =
       let r = each-keep P xs (e .1) in
-      case x (λ g. rw g (e .0 g, r)) (λ g. rw g r)
+      passes-or-not x (λ g. rw g (e .0 g, r)) (λ g. rw g r)
 
   -- each that is kept passes
   pub keep-good : (xs : List A) → Each (λ x. good x ≡ true) (keep good xs)
@@ -77,7 +77,7 @@ module _ {A : Type 0} (good : A → Bool) where
   keep-length [] = omega arith
   keep-length (x ∷ xs) =
       let r = keep-length xs in
-      case x (λ e. rw e (omega arith)) (λ e. rw e (omega arith))
+      passes-or-not x (λ e. rw e (omega arith)) (λ e. rw e (omega arith))
 
   -- the total over those kept: the others add nothing
   pub total-keep : (f : A → ℕ) (xs : List A) → total (λ x. cond (good x) (f x) 0) xs ≡ total f (keep good xs)
@@ -85,4 +85,4 @@ module _ {A : Type 0} (good : A → Bool) where
   total-keep f [] = refl
   total-keep f (x ∷ xs) =
       let r = total-keep f xs in
-      case x (λ e. rw (e, r)) (λ e. rw (e, r) (omega arith))
+      passes-or-not x (λ e. rw (e, r)) (λ e. rw (e, r) (omega arith))

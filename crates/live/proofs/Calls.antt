@@ -12,11 +12,11 @@ use Rattle.lists.specs.Members.{Each}
 use Rattle.lists.proofs.Members.{each-append}
 use Rattle.refusal.specs.Limits.{liveLength}
 use Rattle.refusal.specs.Outcome.{firstDue, Clear, verdict}
-use Rattle.refusal.specs.Outcome.Outcome.{accepted, refused}
+use Rattle.refusal.specs.Outcome.Outcome.{accepted}
 use Rattle.refusal.specs.declared.Verdict.{Verdict}
 use Rattle.refusal.specs.declared.Verdict.the-variants.{Passed, Refused}
 use Rattle.refusal.specs.declared.Refusal.{Refusal}
-use Rattle.refusal.proofs.Outcome.{clear-accepted, passed-clear, refused-alone}
+use Rattle.refusal.proofs.Outcome.{not-refused, clear-accepted, passed-clear, refused-alone}
 use Rattle.cycle.specs.Silence.{silent, isReading}
 use Rattle.memory.specs.Memory.{Changed}
 use Rattle.live.specs.declared.LiveWindow.{LiveWindow}
@@ -50,10 +50,6 @@ module _ {c t : ℕ} {old : LiveWindow} {r : Verdict} (said : verdict r ≡ firs
   pub fresh-passed : {w₁ : LiveWindow} → r ≡ Passed → w₁ ≡ liveAfter c t [] → FreshCall c t old made.Fresh w₁
   unfolding freshDue
   fresh-passed e is = record { answer = sym (clear-accepted tt (windowRules c t) (passed-clear (windowRules c t) said e)); window = is }
-
--- accepted is not refused
-not-refused : {A C : Type 0} {v : A} {n k : ℕ} → accepted v ≡ refused n k → C
-not-refused said = let z : _≡_ {A = ℕ} 0 1 = cc in absurd (omega arith)
 
 -- a window of ours has its own C and T
 pub live-own : {c t : ℕ} {history : List ℕ} {w : LiveWindow} → Live c t history w → (w .cycle ≡ c) × (w .length ≡ t)

@@ -1,13 +1,14 @@
 -- Any number of pushes into a window of ours: after them it holds the readings that were accepted, and each was answered by those before it.
 -- Over the contracts of the calls alone. Assumes nothing.
 use Prim.Native.Nat.{ℕ, zero, suc, _+_, _<_}
-use mathlib.Core.Path.{_≡_, refl, ap, sym, _∙_}
-use mathlib.Core.Bool.{Bool, true, false}
+use mathlib.Core.Path.{_≡_, ap, sym, _∙_}
+use mathlib.Core.Bool.{true, false}
 use mathlib.Core.List.{List, [], _∷_, _++_, append-assoc, append-nil}
 use native.Mathlib.Omega.{arith}
 use lib.ListN.{length, getD, take}
 use Rattle.lists.specs.Keep.{keep}
 use Rattle.lists.proofs.Members.{each-append}
+use Rattle.lists.proofs.Keep.{passes-or-not}
 use Rattle.refusal.specs.Outcome.{Outcome, firstDue, Clear, after}
 use Rattle.refusal.specs.Outcome.Outcome.{accepted, refused}
 use Rattle.refusal.proofs.Outcome.{accepted-clear, clear-accepted, after-clear, clear-join}
@@ -69,20 +70,13 @@ module _ {c t : ℕ} {history : List ℕ} {w : LiveWindow} {x : ℕ} {r : LiveAn
     pub refused-kept : w₁ ≡ w
     refused-kept = call .window c t history l ∙ ap (λ (o : Outcome LiveResult). after o (λ u. liveAfter c t (history ++ (x ∷ []))) w) refused-told
 
-reading-or-not : {C : Type 0} (c x : ℕ) → (isReading c x ≡ true → C) → (isReading c x ≡ false → C) → C
-reading-or-not {C} c x t f = go (isReading c x) refl
-  where
-    go : (b : Bool) → isReading c x ≡ b → C
-    go true e = t e
-    go false e = f e
-
 -- the window after any pushes
 pub pushes-live : {c t : ℕ} {history : List ℕ} {w w₁ : LiveWindow} {xs : List ℕ} {rs : List LiveAnswer} → Live c t history w → Pushes w xs rs w₁
     → Live c t (history ++ keep (isReading c) xs) w₁
 unfolding keep
 pushes-live {history = history} l done = rw (append-nil history) l
 pushes-live {c} {t} {history} {w} {w₁} l (next {x = x} {xs = xs} call rest) =
-    reading-or-not c x
+    passes-or-not (isReading c) x
     (λ e. rw (e, ← (append-assoc history (x ∷ []) (keep (isReading c) xs))) (pushes-live (accepted-live l call e) rest))
     (λ e. rw e (pushes-live (rw (sym (refused-kept l call e)) at l) rest))
 
@@ -94,6 +88,6 @@ unfolding keep
 pushes-told l done k d h = absurd (omega arith)
 pushes-told {c} {t} {history} l (next {x = x} call rest) zero d h = call .answer c t history l ∙ ap (λ (p : List ℕ). pushDue c t p x) (sym (append-nil history))
 pushes-told {c} {t} {history} l (next {x = x} {xs = xs} call rest) (suc k) d h =
-    reading-or-not c x
+    passes-or-not (isReading c) x
     (λ e. rw (e, ← (append-assoc history (x ∷ []) (keep (isReading c) (take k xs)))) (pushes-told (accepted-live l call e) rest k d (omega arith)))
     (λ e. rw e (pushes-told (rw (sym (refused-kept l call e)) at l) rest k d (omega arith)))

@@ -44,6 +44,10 @@ use Rattle.live.proofs.Latest.{reading-place, latest-is}
 use Rattle.live.proofs.Sizes.{Sizes, window-clear}
 use Rattle.live.proofs.Pushes.{fresh-live, push-due-accepted, pushes-told}
 
+-- the readings of a row up to reading k
+length-front : (row : List ℕ) (k : ℕ) → k < length row → length (take (k + 1) row) ≡ k + 1
+length-front row k h = length-take-le (k + 1) row (omega arith)
+
 module _ (c t : ℕ) (row : List ℕ) (k : ℕ) (odd : t ≡ 2 * reach t + 1) (from : t ≤ k + 1) (upto : k < length row) where
   abbrev s : Shape
   s = rowShape c (length row) t
@@ -51,14 +55,11 @@ module _ (c t : ℕ) (row : List ℕ) (k : ℕ) (odd : t ≡ 2 * reach t + 1) (f
   abbrev pushed : List ℕ
   pushed = take (k + 1) row
 
-  length-pushed : length pushed ≡ k + 1
-  length-pushed = length-take-le (k + 1) row (omega arith)
-
   -- the last t readings are a stretch of the row
   reading-row : (i : ℕ) → i < t → readingAt t pushed i ≡ getD row (k + 1 - t + i) 0
   reading-row i h =
       reading-place t pushed i
-      ∙ ap (λ (p : ℕ). getD (replicate t silent ++ pushed) p silent) (omega (arith, length-pushed, length-replicate t silent))
+      ∙ ap (λ (p : ℕ). getD (replicate t silent ++ pushed) p silent) (omega (arith, length-front row k upto, length-replicate t silent))
       ∙ getD-append-add (replicate t silent) pushed (k + 1 - t + i) silent
       ∙ getD-take (k + 1) row (k + 1 - t + i) silent (omega arith)
       ∙ getD-any row (k + 1 - t + i) silent 0 (omega arith)
@@ -107,17 +108,14 @@ module _ {c t : ℕ} {old w w₁ : LiveWindow} {row : List ℕ} {answers : List 
       pushes-told (fresh-live fresh) pushes k d h
       ∙ rw (all, ← whole) (push-due-accepted c t (take k row) (getD row k 0) (fresh-live fresh .tested) reads)
 
-  length-front : (k : ℕ) → k < length row → length (take (k + 1) row) ≡ k + 1
-  length-front k h = length-take-le (k + 1) row (omega arith)
-
   -- "the first T - 1 accepted readings are each answered «filling», and no others are"
   pub row-filling : (k : ℕ) (d : LiveAnswer) → k < length row → k + 1 < t → liveTold (getD answers k d) ≡ accepted filling
   unfolding resultAfter
-  row-filling k d h l = told-row k d h ∙ rw (lt-ltb (length (take (k + 1) row)) t (omega (arith, length-front k h)))
+  row-filling k d h l = told-row k d h ∙ rw (lt-ltb (length (take (k + 1) row)) t (omega (arith, length-front row k h)))
 
   pub row-told : (k : ℕ) (d : LiveAnswer) → k < length row → t ≤ k + 1 → liveTold (getD answers k d) ≡ accepted (resultOf (livePhase c t (take (k + 1) row)))
   unfolding resultAfter
-  row-told k d h l = told-row k d h ∙ rw (le-ltb (length (take (k + 1) row)) t (omega (arith, length-front k h)))
+  row-told k d h l = told-row k d h ∙ rw (le-ltb (length (take (k + 1) row)) t (omega (arith, length-front row k h)))
 
 -- "For a row of N accepted readings, N from T to 8,192, pushed in order into a fresh window, the answer to each reading k (from 0), for k from
 -- T - 1 on, equals the image filter's output at column k - t with M = 1, R = 1."

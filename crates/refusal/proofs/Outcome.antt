@@ -17,8 +17,8 @@ use Rattle.refusal.specs.Outcome.Outcome.{accepted, refused}
 pub ruleset tests = (lt-ltb, le-ltb, le-leb, lt-leb, eq-eqb, ne-eqb)
 
 -- accepted is not refused
-apart : {A C : Type 0} {v : A} {n k : ℕ} → accepted v ≡ refused n k → C
-apart e = let z : _≡_ {A = ℕ} 0 1 = cc in absurd (omega arith)
+pub not-refused : {A C : Type 0} {v : A} {n k : ℕ} → accepted v ≡ refused n k → C
+not-refused e = let z : _≡_ {A = ℕ} 0 1 = cc in absurd (omega arith)
 
 module _ {A : Type 0} (v : A) where
   skip : (r : Rule) (rs : List Rule) → r .due ≡ false → firstDue (r ∷ rs) v ≡ firstDue rs v
@@ -40,7 +40,7 @@ module _ {A : Type 0} (v : A) where
   accepted-clear (r ∷ rs) w e = go (r .due) refl (accepted-clear rs w)
     where
       go : (b : Bool) → r .due ≡ b → (firstDue rs v ≡ accepted w → Clear rs) → Clear (r ∷ rs)
-      go true d next = apart (sym e ∙ stop r rs d)
+      go true d next = not-refused (sym e ∙ stop r rs d)
       go false d next = (d, next (sym (skip r rs d) ∙ e))
 
   -- and then the result is the one given
@@ -77,7 +77,7 @@ module _ {A : Type 0} (v : A) where
 
   pub refused-due : (rs : List Rule) (n k : ℕ) → firstDue rs v ≡ refused n k → Refuses rs n k
   unfolding firstDue
-  refused-due [] n k e = apart e
+  refused-due [] n k e = not-refused e
   refused-due (r ∷ rs) n k e = go (r .due) refl (refused-due rs n k)
     where
       go : (b : Bool) → r .due ≡ b → (firstDue rs v ≡ refused n k → Refuses rs n k) → Refuses (r ∷ rs) n k
