@@ -115,7 +115,7 @@ circle_median_answer circle_median_reading(
 /* The value is the distance of ticks a and b, the shorter way around. 1 and 9 are tested, as by the next two. */
 circle_median_value_answer circle_median_distance(uint32_t cycle, uint16_t a, uint16_t b);
 
-/* The value is the signed step from a to b; half a cycle counts as forward. */
+/* The value is the signed step from a to b; half a cycle counts as backward. */
 circle_median_value_answer circle_median_step(uint32_t cycle, uint16_t a, uint16_t b);
 
 /* The value is 1 if tick p is in the slot that starts at s and is w wide, both ends included, and else 0. */

@@ -1,5 +1,5 @@
-"""Document 01, with document 02's silent wakes (T-01), repeated mirror (T-02) and live window (T-03), in Python, by direct sums: no
-running sums, and nothing shared with the crates.
+"""Document 01, with document 02's silent wakes (T-01), repeated mirror (T-02), live window (T-03) and half a cycle as a step back
+(T-04), in Python, by direct sums: no running sums, and nothing shared with the crates.
 
 The stored outputs of the test programs are made with it. A call returns its result, or a Refusal. A reading, in an image, a
 row or a record, is a tick of the cycle or silent; an argument of distance, step or slot is a tick.
@@ -23,8 +23,9 @@ def distance(c, a, b):
 
 
 def step(c, a, b):
+    """The shortest way from a to b; half a cycle is a step back."""
     e = (b - a) % c
-    return e if 2 * e <= c else e - c
+    return e if 2 * e < c else e - c
 
 
 def drift(c, row):

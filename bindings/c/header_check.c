@@ -75,6 +75,7 @@ static void check_ticks(void)
     expect("distance", is_value(circle_median_distance(360, 359, 1), 2));
     expect("a refused distance", is_refused(circle_median_distance(8, 1, 8), 9, 1));
     expect("step", is_value(circle_median_step(8, 1, 6), -3));
+    expect("a step of half a cycle", is_value(circle_median_step(8, 1, 5), -4));
     expect("a refused step", is_refused(circle_median_step(0, 1, 6), 1, 0));
     expect("slot", is_value(circle_median_slot(8, 1, 6, 3), 1));
     expect("a refused slot", is_refused(circle_median_slot(8, 1, 6, 8), 9, 2));

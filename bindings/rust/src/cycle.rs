@@ -19,12 +19,13 @@ pub fn distance(cycle: u32, a: u16, b: u16) -> Result<u16, Refusal> {
     value(sys::circle_median_distance(cycle, a, b)).map(|distance| distance as u16)
 }
 
-/// The signed step from `a` to `b`; half a cycle counts as forward. Refusals: as for [`distance`].
+/// The signed step from `a` to `b`; half a cycle counts as backward. Refusals: as for [`distance`].
 ///
 /// ```
 /// use circle_median::step;
 ///
-/// assert_eq!(step(8, 1, 5), Ok(4));
+/// assert_eq!(step(8, 1, 4), Ok(3));
+/// assert_eq!(step(8, 1, 5), Ok(-4));
 /// assert_eq!(step(8, 1, 6), Ok(-3));
 /// ```
 pub fn step(cycle: u32, a: u16, b: u16) -> Result<i32, Refusal> {

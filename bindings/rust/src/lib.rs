@@ -52,7 +52,7 @@ pub use shape::{record_len, work_len, Shape};
 /// let mut output = [0; 7];
 /// level(shape, 0..1, &[1, SILENT, 7, SILENT, SILENT, SILENT, 3], &mut output, &mut [0; 64])?;
 /// assert_eq!(output, [1, 1, 7, 7, SILENT, 3, 3]);
-/// assert_eq!(drift(8, &output), Ok(2));
+/// assert_eq!(drift(8, &output), Ok(-6));
 /// assert_eq!(distance(8, 1, SILENT), Err(Refusal { number: 9, place: 1 }));
 /// # Ok::<(), Refusal>(())
 /// ```

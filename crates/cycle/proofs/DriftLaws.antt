@@ -1,13 +1,12 @@
 -- The drift as two sums of natural numbers, one of the ways ahead and one of the cycles to take off; silent entries are passed over.
 -- Assumes nothing.
-use Prim.Native.Nat.{ℕ, _+_, _*_, _≤_, _<_}
+use Prim.Native.Nat.{ℕ, zero, suc, _+_, _*_, _≤_, _<_}
 use mathlib.Core.Path.{_≡_, refl, ap, sym, _∙_}
 use mathlib.Core.Bool.{Bool, true, false, cond, _&&_}
 use mathlib.Core.List.{List, [], _∷_}
 use native.Mathlib.Omega.{arith}
 use native.Mathlib.Numerals.{add-one}
 use lib.IntN.{ℤ, pos, negℤ, _+ℤ_, _-ℤ_, +ℤ-assoc, +ℤ-comm, negℤ-+ℤ}
-use borrow.Author.Tests.{le-leb}
 use lib.ListN.{length, drop, getD, drop-of-length-le}
 use lib.Seq.{drop-cons}
 use Rattle.lists.specs.Keep.{keep}
@@ -16,6 +15,7 @@ use Rattle.cycle.specs.Silence.{silent, isHeard, isReading, heard}
 use Rattle.cycle.specs.Step.{ahead, isForward, stepOf, step, stepSum, drift}
 use Rattle.cycle.specs.Gaps.{wayOn, latest}
 use Rattle.cycle.proofs.SilenceLaws.{unheard, heard-case, heard-tick, silent-reading, heard-yes, heard-no}
+use Rattle.cycle.proofs.StepLaws.{forward-yes}
 use Rattle.cycle.proofs.Ways.{ahead-way}
 
 -- g summed over the neighbours of a row
@@ -110,10 +110,13 @@ off-small c e = go (isForward c e)
     go false = omega arith
 
 -- no step takes no cycle off
+off-zero : (c : ℕ) → off c 0 ≡ 0
+off-zero zero = omega (arith, off-small 0 0)
+off-zero (suc c) = rw (forward-yes (suc c) 0 (omega arith))
+
 off-none : (c : ℕ) (t : Bool) (e : ℕ) → off c (cond t e 0) ≡ cond t (off c e) 0
-unfolding isForward
 off-none c true e = refl
-off-none c false e = rw (le-leb (2 * 0) c (omega arith))
+off-none c false e = off-zero c
 
 -- the way to the next reading is less than a cycle
 pub way-small : (c last z : ℕ) → isReading c last ≡ true → isReading c z ≡ true → wayOn c last z ≤ c

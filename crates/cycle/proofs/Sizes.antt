@@ -29,15 +29,17 @@ sum-size (pos a) (negsuc b) = sub-size a (suc b)
 sum-size (negsuc a) (pos b) = omega (arith, sub-size b (suc a))
 sum-size (negsuc a) (negsuc b) = omega arith
 
+-- a step lies from -32,767 to 32,767
+pub step-range : {c : ℕ} → c ≤ longestCycle → (a b : ℕ) → a < c → b < c → natAbs (step c a b) ≤ 32767
+step-range {c} fits a b h g = omega (arith, step-size c a b h g, distance-half c a b h g)
+
 -- a step of at most half a cycle for each reading
 steps-size : {c : ℕ} → c ≤ longestCycle → (row : List ℕ) → Each (λ y. y < c) row → natAbs (stepSum c row) ≤ length row * 32767
 unfolding stepSum
 steps-size fits [] e = omega arith
 steps-size fits (a ∷ []) e = omega arith
 steps-size {c} fits (a ∷ (b ∷ row)) e =
-    let ha : a < c = e .0 in
-    let hb : b < c = e .1 .0 in
-    omega (arith, sum-size (step c a b) (stepSum c (b ∷ row)), step-size c a b ha hb, distance-half c a b ha hb, steps-size fits (b ∷ row) (e .1))
+    omega (arith, sum-size (step c a b) (stepSum c (b ∷ row)), step-range fits a b (e .0) (e .1 .0), steps-size fits (b ∷ row) (e .1))
 
 pub drift-size : {c : ℕ} → c ≤ longestCycle → (row : List ℕ) → Each (λ y. isReading c y ≡ true) row → natAbs (drift c row) ≤ length row * 32767
 unfolding drift
@@ -51,7 +53,7 @@ drift-fits c row clear =
 step-fits : (c a b : ℕ) → Clear (pairRules c a b) → mag (step c a b) < 2 ^ 31
 step-fits c a b clear =
     let p = pair-clear c a b clear in
-    omega (arith, mag-size (step c a b), step-size c a b (p .first) (p .second), distance-half c a b (p .first) (p .second), p .cycle-fits)
+    omega (arith, mag-size (step c a b), step-range (p .cycle-fits) a b (p .first) (p .second))
 
 -- the same of what the calls were answered
 pub step-told : (c a b : ℕ) {v : ℤ} → accepted v ≡ stepDue c a b → mag v < 2 ^ 31

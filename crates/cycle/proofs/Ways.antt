@@ -114,3 +114,9 @@ pub distance-way : {c a b e : ℕ} (r : ℕ) → a < c → b < c → e + r ≡ c
 unfolding distance
 distance-way r h g l (straight w) = omega arith
 distance-way r h g l (round w) = omega arith
+
+-- so it is told by how many ticks the one lies ahead of the other
+pub distance-ahead : (c a b : ℕ) → a < c → b < c → distance c a b ≡ min (ahead c a b) (c - ahead c a b)
+distance-ahead c a b h g =
+    let r = ahead-way c a b h g in
+    distance-way (c - ahead c a b) h g (omega (arith, r .less)) (r .way)

@@ -2,7 +2,7 @@
 use Prim.Native.Nat.{ℕ, _+_, _-_, _*_, _%_}
 use mathlib.Core.Bool.{Bool, cond}
 use mathlib.Core.List.{List, [], _∷_}
-use lib.Dec.{leb}
+use lib.Dec.{leb, ltb}
 use lib.IntN.{ℤ, pos, _+ℤ_, _-ℤ_}
 use Rattle.cycle.specs.Silence.{heard}
 
@@ -10,9 +10,9 @@ use Rattle.cycle.specs.Silence.{heard}
 unfoldable pub ahead : ℕ → ℕ → ℕ → ℕ
 ahead c a b = (b + (c - a)) % c
 
--- e ticks ahead count as a step forward, half a cycle too
+-- e ticks ahead count as a step forward if they are less than half a cycle. "A step of e with 2e = C is now e − C" (document 02, T-04).
 unfoldable pub isForward : ℕ → ℕ → Bool
-isForward c e = leb (2 * e) c
+isForward c e = ltb (2 * e) c
 
 -- the signed step to a tick that lies e ahead
 unfoldable pub stepOf : ℕ → ℕ → ℤ

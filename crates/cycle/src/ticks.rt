@@ -44,12 +44,12 @@ pub fn ahead_of(cycle: u32, a: u32, b: u32) -> u32
     if a <= b { b - a } else { cycle - (a - b) }
 }
 
-// The whole cycle that a step of e ticks ahead takes off again: none where it goes forward.
+// The whole cycle that a step of e ticks ahead takes off again: none where it goes forward, which half a cycle does not.
 fn turn_back(cycle: u32, e: u32) -> u32
     requires { ⌜ e < 2 ^ 31 ⌝ }
     ensures { λ r. ⌜ r ≡ cond (isForward cycle e) 0 cycle ⌝ }
 {
-    if 2 * e <= cycle { 0 } else { cycle }
+    if 2 * e < cycle { 0 } else { cycle }
 }
 
 // up - back

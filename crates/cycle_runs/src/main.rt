@@ -1,5 +1,5 @@
 // Runs the calls on a cycle and prints each answer, for comparison with the file stdout: the examples
-// of document 01 that concern them, odd cycles, slots over tick 0, and each refusal with its place.
+// of document 01 that concern them, odd cycles, steps of half a cycle, slots over tick 0, and each refusal with its place.
 //
 // Standard input holds one case to a line: a call, its cycle, and after a colon its ticks. The case is printed, and
 // after it the answer.

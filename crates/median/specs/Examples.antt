@@ -1,5 +1,5 @@
--- Document 01, "Bench examples": P1 to P12, with the sums that the table names; and document 02, T-01: document 000's example 2 in 16
--- ticks, with a silent centre.
+-- Document 01, "Bench examples": P1 to P12, with the sums that the table names, P12 as document 02, T-04, alters it; and T-01: document
+-- 000's example 2 in 16 ticks, with a silent centre.
 use Prim.Native.Nat.{ℕ, _/_}
 use mathlib.Core.Path.{_≡_}
 use mathlib.Core.List.{List, [], _∷_}
@@ -57,5 +57,5 @@ examples =
     ∷ window 1 (0 ∷ 0 ∷ 0 ∷ []) 0 []
     ∷ window 2 (0 ∷ 1 ∷ 1 ∷ []) 1 []
     ∷ window 16 (15 ∷ 1 ∷ silent ∷ 8 ∷ 8 ∷ []) 8 (sum-of 8 14 ∷ sum-of 15 16 ∷ sum-of 1 16 ∷ [])
-    ∷ steps 8 (step-of 1 5 (pos 4) ∷ step-of 1 6 (negsuc 2) ∷ [])
+    ∷ steps 8 (step-of 1 5 (negsuc 3) ∷ step-of 1 6 (negsuc 2) ∷ [])
     ∷ []

@@ -137,16 +137,17 @@ fn drift_of_every_short_row() {
     tally.must_have(&[0, 9], 300);
 }
 
-/// The largest drifts: half a cycle of 65,535 ticks at each of 8,191 steps, ahead and back.
+/// The largest drifts: 8,191 steps of 32,767 ticks, ahead and back on a cycle of 65,535, and on 65,534, where each is half a cycle
+/// and so a step back.
 #[test]
 fn largest_drifts() {
     let mut random = Random::seeded(3);
     let mut tally = Tally::of("largest drifts");
-    for pace in [32_767, 32_768] {
-        let row: Vec<u16> = (0..8192).map(|at: u64| (at * pace % 65_535) as u16).collect();
+    for (cycle, pace, step) in [(65_535, 32_767, 32_767), (65_535, 32_768, -32_767), (65_534, 32_767, -32_767)] {
+        let row: Vec<u16> = (0..8192).map(|at: u64| (at * pace % u64::from(cycle)) as u16).collect();
         let row = Lent::holding(&mut random, &row);
-        assert_eq!(direct::drift(65_535, row.slice()).map(i32::abs), Ok(8191 * 32_767));
-        compare_drift(&mut tally, 65_535, &row);
+        assert_eq!(direct::drift(cycle, row.slice()), Ok(8191 * step));
+        compare_drift(&mut tally, cycle, &row);
     }
-    tally.must_have(&[0], 2);
+    tally.must_have(&[0], 3);
 }

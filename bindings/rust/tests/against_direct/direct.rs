@@ -62,9 +62,10 @@ fn apart(cycle: u64, a: u64, b: u64) -> u64 {
     e.min(cycle - e)
 }
 
+/// Half a cycle is a step back.
 fn stepped(cycle: i64, a: i64, b: i64) -> i64 {
     let e = (b - a).rem_euclid(cycle);
-    if 2 * e <= cycle {
+    if 2 * e < cycle {
         e
     } else {
         e - cycle

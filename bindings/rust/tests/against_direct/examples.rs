@@ -51,9 +51,12 @@ fn windows_p1_to_p11() {
 
 #[test]
 fn steps_p12_and_drift() {
-    assert_eq!(step(8, 1, 5), Ok(4));
+    assert_eq!(step(8, 1, 5), Ok(-4));
+    assert_eq!(step(8, 5, 1), Ok(-4));
     assert_eq!(step(8, 1, 6), Ok(-3));
+    assert_eq!(step(65_534, 0, 32_767), Ok(-32_767));
     assert_eq!(drift(8, &[1, 1, 1, 7, 7]), Ok(-2));
+    assert_eq!(drift(8, &[0, 4, 0, 4, 1, 5, 1, 5, 2, 6]), Ok(-34));
     assert_eq!(drift(8, &[5]), Ok(0));
 }
 
@@ -96,7 +99,7 @@ fn silent_windows() {
         assert_eq!(filtered(engine, shape(4096, 2, 1, 3, 1), &[S, 4095]), Ok(vec![4095, 4095]));
     }
     assert_eq!(filtered(Reading, shape(65_535, 1, 4, 1, 3), &[65_534, S, 0, S]), Ok(vec![65_534, 65_534, 0, 0]));
-    assert_eq!(drift(8, &[1, 1, 7, 7, S, 3, 3]), Ok(2));
+    assert_eq!(drift(8, &[1, 1, 7, 7, S, 3, 3]), Ok(-6));
     assert_eq!(drift(8, &[S, 5, S]), Ok(0));
     assert_eq!(drift(65_535, &[S, S]), Ok(0));
 }
