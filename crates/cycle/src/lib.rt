@@ -1,14 +1,19 @@
 // The cycle of document 01, "The dial": distance, signed step, listening slot and drift. Ticks are
 // 16 bits, the cycle 32; each call tests its arguments and answers for every input. A row may have silent
 // readings (document 02, T-01).
+mod list;
 mod ticks;
 mod verdicts;
 
+pub use list::is_listed;
+pub use list::listed_distances;
 use refusal::Refusal;
 use refusal::Verdict;
 pub use ticks::SILENT;
 use ticks::ahead_of;
 pub use ticks::apart;
+pub use ticks::apart_by;
+pub use ticks::apart_by_formula;
 use ticks::drift_of;
 pub use ticks::least;
 pub use ticks::less;

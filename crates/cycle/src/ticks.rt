@@ -1,4 +1,7 @@
 // Arithmetic on ticks that have been tested.
+use crate::list::entry_in;
+use crate::list::is_listed;
+use crate::list::listed_distances;
 ghost use mathlib.Core.Path.{_≡_};
 ghost use mathlib.Core.Bool.{true, cond};
 ghost use Prim.Native.Nat.{_-_, _^_, _≤_, _<_, min};
@@ -6,7 +9,8 @@ ghost use lib.IntN.{pos, _-ℤ_};
 ghost use lib.ListN.{length};
 ghost use Rattle.lists.specs.First.{firstBad};
 ghost use Rattle.refusal.specs.Limits.{mostColumns};
-ghost use Rattle.cycle.specs.Distance.{distance};
+ghost use Rattle.cycle.specs.Distance.{gap, distance};
+ghost use Rattle.cycle.specs.List.{ListFor};
 ghost use Rattle.cycle.specs.Silence.{isReading};
 ghost use Rattle.cycle.specs.Step.{ahead, isForward, step, drift};
 ghost use Rattle.cycle.specs.Gaps.{wayOn, latest};
@@ -14,12 +18,43 @@ ghost use Rattle.cycle.specs.Gaps.{wayOn, latest};
 // The reading of a wake that was not heard; no cycle has it as a tick.
 pub const SILENT: u16 = 65535;
 
-// The distance of two ticks: 16 bits wide and free of branches, for loops over many.
+// The distance of two ticks: by the list, which is lent, on the list's cycle, and else by the formula.
+pub fn apart_by(list: &[u16], cycle: u16, a: u16, b: u16) -> u16
+    requires { ⌜ ListFor cycle (now list) ⌝ }
+    ensures { λ r. ⌜ r ≡ distance cycle a b ⌝ }
+{
+    if is_listed(cycle) {
+        return entry_in(list, gap_of(a, b));
+    }
+    apart_by_formula(cycle, a, b)
+}
+
+// The same for one pair. The list is made here, where it is used, which takes as long as many look-ups: a loop
+// is lent it.
 pub fn apart(cycle: u16, a: u16, b: u16) -> u16
     ensures { λ r. ⌜ r ≡ distance cycle a b ⌝ }
 {
-    let gap = less(a, b) + less(b, a);
+    if is_listed(cycle) {
+        let list = listed_distances();
+        return apart_by(&list, cycle, a, b);
+    }
+    apart_by(&[], cycle, a, b)
+}
+
+// The same by the formula on every cycle, also on the list's: 16 bits wide and free of branches, for packed
+// loops over many, which have no look-up.
+pub fn apart_by_formula(cycle: u16, a: u16, b: u16) -> u16
+    ensures { λ r. ⌜ r ≡ distance cycle a b ⌝ }
+{
+    let gap = gap_of(a, b);
     least(gap, less(cycle, gap))
+}
+
+// |a - b|
+fn gap_of(a: u16, b: u16) -> u16
+    ensures { λ r. ⌜ r ≡ gap a b ⌝ }
+{
+    less(a, b) + less(b, a)
 }
 
 // a - b, or 0 where b is larger.

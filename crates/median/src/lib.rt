@@ -2,7 +2,7 @@
 // choice among equals. specs/ defines them, proofs/ has the theorems; the code here is what a reading adds
 // to a sum, for the engines. Internal: `share_of` has a `requires`, which every engine meets.
 use cycle::SILENT;
-use cycle::apart;
+use cycle::apart_by_formula;
 ghost use mathlib.Core.Path.{_≡_};
 ghost use mathlib.Core.Bool.{true, cond};
 ghost use Rattle.cycle.specs.Distance.{distance};
@@ -23,18 +23,18 @@ fn cycle_for(cycle: u16, z: u16) -> u16
 fn share_of_any(cycle: u16, q: u16, z: u16) -> u16
     ensures { λ r. ⌜ r ≡ share cycle q z ⌝ }
 {
-    apart(cycle_for(cycle_for(cycle, q), z), q, z)
+    apart_by_formula(cycle_for(cycle_for(cycle, q), z), q, z)
 }
 
-// The same: 16 bits wide, for loops over many. It is the distance itself where `plain` says so: where both are
-// heard, or the cycle is short (`is_short`). In a loop the compiler asks that once and makes two loops, each
-// without a branch.
+// The same: 16 bits wide, for loops over many, so by the formula on every cycle: packed instructions have no
+// look-up. It is the distance itself where `plain` says so: where both are heard, or the cycle is short
+// (`is_short`). In a loop the compiler asks that once and makes two loops, each without a branch.
 pub fn share_of(cycle: u16, q: u16, z: u16, plain: bool) -> u16
     requires { ⌜ (plain ≡ true → distance cycle q z ≡ share cycle q z) ⌝ }
     ensures { λ r. ⌜ r ≡ share cycle q z ⌝ }
 {
     if plain {
-        return apart(cycle, q, z);
+        return apart_by_formula(cycle, q, z);
     }
     share_of_any(cycle, q, z)
 }

@@ -1,3 +1,4 @@
 pub mod Moves
 pub mod StepLaws
 pub mod Marks
+pub mod Listed

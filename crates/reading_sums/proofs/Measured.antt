@@ -9,12 +9,14 @@ use lib.ListN.{getD}
 use Rattle.refusal.specs.Limits.{longestCycle}
 use Rattle.refusal.specs.Outcome.{Clear}
 use Rattle.cycle.specs.Distance.{distance}
+use Rattle.cycle.specs.List.{listedCycle}
 use Rattle.shape.specs.Rules.{shapeRules}
 use Rattle.shape.specs.declared.Shape.{Shape}
 use Rattle.median.specs.Sum.{share, isShort}
 use Rattle.median.proofs.Sum.{share-heard, share-short}
 use Rattle.lines.specs.Lines.{Reads, lineLength, paddedLength}
 use Rattle.reading_lines.specs.Passes.{Measurable}
+use Rattle.reading_lines.specs.Listed.{ListedReadings}
 use Rattle.reading_planes.proofs.Sums.{sizes}
 use Rattle.reading_sums.specs.CarryLines.{Plain}
 
@@ -42,3 +44,7 @@ module _ (s : Shape) (clear : Clear (shapeRules longestCycle s)) where
       row-room = omega (arith, y .len, padded-fits);
       plainly = λ e j k. gains e (l + j) (at + j) (omega arith) (omega arith);
     }
+
+-- on the list's cycle such lines meet what is asked by `distances-listed` and its companions (reading_lines/proofs/Listed.antt)
+pub reads-listed : (s : Shape) {line : List ℕ} → s .cycle ≡ listedCycle → Reads s line → (at n : ℕ) → at + n ≤ paddedLength s → ListedReadings line at n
+reads-listed s e x at n h j g = rw e at (x .readings (at + j) (omega arith))

@@ -5,7 +5,7 @@ use Rattle.median.proofs.share_of.Statement.{statement}
 use Rattle.median.proofs.share_of.Tie as tie
 
 returns : tie.Need-returns
-returns c = c .apart .ensures ∙ c .before .before .pre (c .before .if1 .taken)
+returns c = c .apart-by-formula .ensures ∙ c .before .before .pre (c .before .if1 .taken)
 
 returns-2 : tie.Need-returns-2
 returns-2 c = c .share-of-any .ensures
