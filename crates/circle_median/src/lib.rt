@@ -1,5 +1,7 @@
 // The proved calls for programs in C and Rust. Each function hands its arguments to one call and tells the
 // answer in plain numbers; include/circle_median.h declares the same functions and structs.
+#![tactic(auto)]
+
 mod answers;
 
 ghost use Rattle.std.specs.Prelude.{◌≡◌};

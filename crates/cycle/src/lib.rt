@@ -1,6 +1,8 @@
 // The cycle of document 01, "The dial": distance, signed step, listening slot and drift. Ticks are
 // 16 bits, the cycle 32; each call tests its arguments and answers for every input. A row may have silent
 // readings (document 02, T-01).
+#![tactic(auto)]
+
 mod list;
 mod ticks;
 mod verdicts;

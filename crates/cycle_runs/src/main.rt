@@ -3,6 +3,8 @@
 //
 // Standard input holds one case to a line: a call, its cycle, and after a colon its ticks. The case is printed, and
 // after it the answer.
+#![tactic(auto)]
+
 use cycle::{DistanceAnswer, SignedAnswer, SlotAnswer};
 use runs::cases::{DECIMAL, MOST_INPUT, MOST_NUMBERS, begins, find, input, number_of, readings_of};
 use runs::counts::after;

@@ -1,6 +1,8 @@
 // The filter calls of document 01: each tests everything before it touches anything, filters the rows of
 // its range, and leaves the needed work memory zero. The two engines differ in the cycles that they take,
 // in the work memory that they need and in speed; they write the same rows.
+#![tactic(auto)]
+
 mod engines;
 mod verdicts;
 

@@ -6,6 +6,8 @@
 // Standard input holds one case to a line: a name; after a colon the cycle, the rows and columns of the image, the
 // sides of the mask, the first and the end row, the lengths of the output and of the work memory; after a colon the
 // image. The case is printed, as it was understood, before its answers.
+#![tactic(auto)]
+
 use filter::{Engine, FilterAnswer};
 use runs::cases::{DECIMAL, MOST_INPUT, find, input, nth, numbers_of, readings_of, shape_of};
 use runs::counts::after;

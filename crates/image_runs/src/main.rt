@@ -8,6 +8,8 @@
 // numbers must be 0, and every other number must be its garbage still; so must all of them where the
 // level engine has to refuse the cycle. The program prints what it counted, for each engine, and how
 // many numbers and answers were not the ones due.
+#![tactic(auto)]
+
 use filter::FilterAnswer;
 use runs::cases::{MOST_INPUT, input, number_at};
 use runs::counts::{LARGEST, after, least, minus, plus, times};

@@ -5,4 +5,6 @@
 // what stands in for silent ones, and `level_choice` the choice among the ticks; here are the rows of the
 // output, silent where none of a window was heard (document 02, T-01). Internal: the tests are the
 // caller's.
+#![tactic(auto)]
+
 pub mod rows;

@@ -3,6 +3,8 @@
 // one packed pass counts the ticks with the least sum and adds up their places: if there is only one,
 // that sum is its place. If there are several, the walk goes on. Internal: the engine meets each
 // `requires`.
+#![tactic(auto)]
+
 ghost use Rattle.std.specs.Prelude.{◌≡◌, ◌+◌, ◌%◌, ◌≤◌, ◌<◌, length};
 ghost use Rattle.refusal.specs.Limits.{longest_cycle};
 ghost use Rattle.median.specs.Choice.{candidates, Chosen};

@@ -2,5 +2,7 @@
 // tick for one column of lent memory, set up afresh, moved on by a column, or moved down by a row with
 // the differences between the two rows, modulo 2^32. A silent reading adds to no sum (document 02, T-01):
 // its part of the table is zeros. Internal: the tests are the caller's.
+#![tactic(auto)]
+
 pub mod columns;
 pub mod table;

@@ -1,5 +1,7 @@
 // Lines of readings, for both engines: a row of the padded image with its mirrored edges, and the centres
 // of a row's windows, with what stands in for those that are silent. Internal: the tests are the caller's.
+#![tactic(auto)]
+
 ghost use Rattle.std.specs.Prelude.{◌≡◌, true, ◌+◌, ◌*◌, ◌≤◌, ◌<◌, length};
 ghost use Rattle.refusal.specs.Limits.{longest_cycle};
 ghost use Rattle.memory.specs.Memory.{Changed};

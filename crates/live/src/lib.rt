@@ -2,6 +2,8 @@
 // holds the last T readings, oldest first, with the sum of distances at each; a push takes the oldest off
 // and answers with the median. By value, or in place on the two arrays, which the calls for C use.
 // Every call is total, also on a window that none of them made.
+#![tactic(auto)]
+
 mod verdicts;
 
 ghost use Rattle.std.specs.Prelude.{◌≡◌, [], ◌+◌, min};

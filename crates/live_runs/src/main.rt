@@ -7,6 +7,8 @@
 // holds. `row` has readings alone, all accepted, which both engines filter too. `forged` has C, T and the count of a
 // window, and after commas its readings and its sums: they are printed as they were understood, and of such a window
 // only whether a push is refused, until a reset has made it fresh. At last stands what was counted.
+#![tactic(auto)]
+
 mod rows;
 
 use live::{LiveWindow, PLACES};

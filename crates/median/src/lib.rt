@@ -1,6 +1,8 @@
 // The arc distance median of a list of readings: sums of distances, grids, the closest point, and the
 // choice among equals. specs/ defines them, proofs/ has the theorems; the code here is what a reading adds
 // to a sum, for the engines. Internal: `share_of` has a `requires`, which every engine meets.
+#![tactic(auto)]
+
 ghost use Rattle.std.specs.Prelude.{◌≡◌, true, cond};
 ghost use Rattle.cycle.specs.Distance.{distance};
 ghost use Rattle.cycle.specs.Silence.{is_heard};

@@ -1,6 +1,8 @@
 // Operations on parts of lent memory, for the engines' sums and differences: each is one loop without
 // a branch over contiguous numbers, so that it compiles to packed instructions. Internal: each has a
 // `requires`, which every engine meets; `lower` serves the live window too.
+#![tactic(auto)]
+
 ghost use Rattle.std.specs.Prelude.{◌≡◌, ℕ, ◌+◌, ◌^◌, ◌<◌, ◌≤◌, min, length, slice_index};
 ghost use Rattle.memory.specs.Memory.{Changed, ChangedBoth, Signed, lowest};
 ghost use Rattle.memory.specs.Parts.{zeros, added, swapped, turned, summed, copied};

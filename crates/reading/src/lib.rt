@@ -4,4 +4,6 @@
 // first row of a range all are. As soon as a plane has its sums it is weighed. `reading_sums` has the sums,
 // `reading_choice` the choice, `reading_turns` the turn of one mask row; here are the rows of a range.
 // Internal: the tests are the caller's.
+#![tactic(auto)]
+
 pub mod rows;

@@ -5,6 +5,8 @@
 // Each pass is one loop without a branch over contiguous numbers; sums and ranks are compared as signed
 // numbers, which takes fewer packed instructions. Internal: the engine meets each `requires`, and so does the
 // live window, which takes its ranks and its phase from here.
+#![tactic(auto)]
+
 ghost use Rattle.std.specs.Prelude.{◌≡◌, ℕ, ◌+◌, ◌-◌, ◌/◌, ◌%◌, ◌^◌, ◌<◌, ◌≤◌, true, length, if◌then◌else◌, nat_eq, nat_le, slice_index};
 ghost use Rattle.refusal.specs.Limits.{longest_cycle};
 ghost use Rattle.cycle.specs.Silence.{silent, is_heard, is_reading};

@@ -2,6 +2,8 @@
 // one loop without a branch over contiguous numbers, so that it compiles to packed instructions. Those that
 // measure are told whether silence needs no test (`plain`). Internal: each has a `requires`, which the engine
 // meets.
+#![tactic(auto)]
+
 ghost use Rattle.std.specs.Prelude.{◌≡◌, ◌+◌, ◌/◌, ◌≤◌, length};
 ghost use Rattle.memory.specs.Memory.{Changed};
 ghost use Rattle.memory.specs.Parts.{added, summed};

@@ -1,6 +1,8 @@
 // What the planes of the reading engine hold: for each reading of a line of the padded image, and for each
 // column whose window has it, the sum at that reading. specs/ defines it, proofs/ has its laws; the code here
 // is where planes lie. Internal: the tests are the caller's.
+#![tactic(auto)]
+
 ghost use Rattle.std.specs.Prelude.{◌≡◌};
 ghost use Rattle.refusal.specs.Limits.{longest_cycle};
 ghost use Rattle.refusal.specs.Outcome.{Clear};

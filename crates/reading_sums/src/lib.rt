@@ -3,6 +3,8 @@
 // offset by offset, the columns from each reading's own place on, and after each offset one plane has its
 // part; the sweep behind adds the columns before it. Nothing is taken off again along the row. The column is
 // the innermost loop. Internal: the tests are the caller's.
+#![tactic(auto)]
+
 mod build;
 mod carry;
 

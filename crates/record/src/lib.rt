@@ -1,5 +1,7 @@
 // The bench record of document 01, "Bench record": a writer and a reader, each of which answers for
 // every input and changes no lent memory if it refuses. `look` is the reader's answer without the reading.
+#![tactic(auto)]
+
 ghost use Rattle.std.specs.Prelude.{◌≡◌};
 ghost use Rattle.record_format.specs.Reading.{read_due};
 ghost use Rattle.record.specs.Calls.{read_outcome, WriteCall, ReadCall};

@@ -1,4 +1,6 @@
 // Numbers and fields as bytes: each number two bytes, high byte first. Internal: the tests are the caller's.
+#![tactic(auto)]
+
 pub mod layout;
 
 ghost use Rattle.std.specs.Prelude.{◌≡◌, ◌+◌, ◌*◌, ◌≤◌, ◌<◌, length};

@@ -1,5 +1,7 @@
 // What the reader of records does: its tests, field by field, and the readings that it stores. Internal: each
 // `requires` is met by the tests before.
+#![tactic(auto)]
+
 mod body;
 mod head;
 mod stores;

@@ -7,6 +7,8 @@
 // bytes in hexadecimal: `read` reads them, with room for so many readings, and `again` reads them and writes what
 // was read. `write` has the sizes and the readings that are written, with room for so many bytes. `cut` and `byte`
 // are on the record of the last `read` before them: its first bytes, and all of them with one changed.
+#![tactic(auto)]
+
 ghost use Rattle.std.specs.Prelude.{◌≤◌, length};
 ghost use Rattle.io.specs.Counts.{IsPrefixLen};
 

@@ -1,4 +1,6 @@
 // The writer's tests, and the bytes that it writes. Internal: each `requires` is met by the tests before.
+#![tactic(auto)]
+
 ghost use Rattle.std.specs.Prelude.{◌≡◌, [], ◌∷◌, ◌+◌, ◌*◌, ◌≤◌, ◌<◌, length};
 ghost use Rattle.std.proofs.lemmas.List.Edits.{sets};
 ghost use Rattle.lists.specs.Joined.{joined};

@@ -1,6 +1,8 @@
 // The refusals of document 01, "Refused calls": one case for each number of its table that is given, with
 // the place where the table gives one. A call answers with its result or with one of these. 4 is reserved:
 // since T-02 of document 02 it is never given.
+#![tactic(auto)]
+
 pub mod limits;
 
 ghost use Rattle.std.specs.Prelude.{◌≡◌};

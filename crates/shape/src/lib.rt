@@ -1,6 +1,8 @@
 // The cycle, the sizes of an image and the sides of a mask, the tests on them that the filters, the reader,
 // the writer and the live window share, and the work memory that each engine needs. All are total but `reading_need`, which
 // is internal: its `requires` is met by the tests before.
+#![tactic(auto)]
+
 ghost use Rattle.std.specs.Prelude.{◌≡◌, [], ◌∷◌, ◌≤◌};
 ghost use Rattle.refusal.specs.Limits.{most_mask_rows, most_mask_columns};
 ghost use Rattle.refusal.specs.Outcome.{first_due, verdict};

@@ -1,6 +1,8 @@
 // The bench sheet of document 01 as a function from the bytes of a record to the bytes of a text, over
 // lent memory. What the program prints is what stands here. All is tested before anything is stored: a
 // refused sheet changes nothing but the text, which is the call's product.
+#![tactic(auto)]
+
 ghost use Rattle.std.specs.Prelude.{◌≡◌, ◌≤◌, length};
 ghost use Rattle.refusal.specs.Outcome.{and_then};
 ghost use Rattle.refusal.specs.Outcome.Outcome.{accepted};

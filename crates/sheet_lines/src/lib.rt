@@ -1,6 +1,8 @@
 // The lines of the bench sheet, laid into lent memory one after the other. Each function returns the place
 // after its line; where there is no room left the text is cut, and the place goes on counting (see `text`).
 // Internal: that the places fit 64 bits and that each row has a drift is asked of the caller.
+#![tactic(auto)]
+
 ghost use Rattle.std.specs.Prelude.{◌≡◌, ◌++◌, ℕ, ◌+◌, ◌*◌, ◌^◌, ◌≤◌, ◌<◌, length};
 ghost use Rattle.refusal.specs.Limits.{most_rows, most_columns};
 ghost use Rattle.refusal.specs.Table.{number_of, place_of};

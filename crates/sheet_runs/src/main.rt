@@ -3,6 +3,8 @@
 // Standard input holds one record after the other, each after its length in two bytes, the high byte
 // first. A line with the record's index, from 0, comes before each sheet. The memory is lent anew to each
 // call and never cleared, so a record finds in it what those before it left.
+#![tactic(auto)]
+
 ghost use Rattle.std.specs.Prelude.{◌≤◌, length};
 ghost use Rattle.sheet_lines.specs.Lines.{most_text};
 

@@ -2,6 +2,8 @@
 // the text is written. All that is printed is laid out by `sheet`, which is proved. A program over this
 // calls `print_input`, of which no contract can speak: it takes and returns nothing. `print_sheet` is
 // internal: its `requires` is met by the text memory of the programs.
+#![tactic(auto)]
+
 ghost use Rattle.std.specs.Prelude.{◌≡◌, ◌≤◌, length};
 ghost use Rattle.sheet_lines.specs.Lines.{most_text};
 ghost use Rattle.sheet.specs.Sheet.{text_length, SheetCall};

@@ -2,6 +2,8 @@
 // place after its piece. Where there is no room left it lays what fits and drops the rest, and the place
 // goes on counting, so that the last one is the length of the whole text. Internal: each asks that this
 // count fits 64 bits, which the caller meets.
+#![tactic(auto)]
+
 ghost use Rattle.std.specs.Prelude.{◌≡◌, [], ◌∷◌, ◌+◌, ◌^◌, ◌<◌, nat_abs, length};
 ghost use Rattle.text.specs.Text.{decimal, signed, Laid};
 

@@ -1,5 +1,7 @@
 // The mirrored edges of an image in code, for the engines. Internal: `mirrored` has a `requires`, which
 // every engine meets.
+#![tactic(auto)]
+
 ghost use Rattle.std.specs.Prelude.{◌≡◌, ◌+◌, ◌-◌, ◌*◌, ◌%◌, ◌≤◌, ◌<◌};
 ghost use Rattle.refusal.specs.Limits.{most_columns};
 ghost use Rattle.window.specs.Mirror.{folded, mirror};
