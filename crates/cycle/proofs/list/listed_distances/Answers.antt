@@ -3,12 +3,8 @@
 use Rattle.std.proofs.Common.{refl}
 use Rattle.cycle.specs.Distance.{distance}
 use Rattle.cycle.specs.List.{listed}
-use Rattle.cycle.proofs.list.listed_distances.Statement.{statement}
-use Rattle.cycle.proofs.list.listed_distances.Tie as tie
+use Rattle.cycle.proofs.list.listed_distances.Goals as goal
 
-returns : tie.Need-returns
+pub returns : goal.returns
 unfolding listed distance
 returns c = refl
-
-pub listed-distances-spec : {M : Type 1} → statement M
-listed-distances-spec = tie.close (tie.spec returns)

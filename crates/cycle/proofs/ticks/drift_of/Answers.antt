@@ -1,0 +1,47 @@
+use Rattle.std.proofs.Common.{◌≡◌, ◌-◌, ◌≤◌, true, length, get_or, sym, ◌∙◌, arith, rules}
+use Rattle.cycle.specs.Silence.{is_reading}
+use Rattle.cycle.proofs.SignedLaws.{kept}
+use Rattle.cycle.proofs.DriftLaws.{off_small, way_small, travelled_none, travelled_more, travelled_all, Travelled}
+use Rattle.cycle.proofs.Accepted.{reading-good}
+use Rattle.cycle.proofs.ticks.drift_of.Goals as goal
+use Rattle.cycle.proofs.ticks.drift_of.Goals.{After-way_on-e, In-loop-i}
+
+-- the number of a turn is a reading
+good : (t : In-loop-i) → let a = t.args in is_reading a.cycle (get_or a.row.now t.loop-i.i 0) ≡ true
+good t =
+    let a = t.args in
+    reading-good a.cycle a.row.now t.loop-i.i (omega arith) (omega arith)
+
+-- the way of a turn is at most a cycle
+way : (c : After-way_on-e) → c.way_on-e.result ≤ c.args.cycle
+way c =
+    let good' : let a = c.args in is_reading a.cycle (get_or a.row.now c.loop-i.i 0) ≡ true = let a = c.args in
+    reading-good a.cycle a.row.now c.loop-i.i (omega arith) (omega arith) in
+    omega (arith, c.way_on-e.ensures, way_small _ _ _ c.loop-i.invariant.1.last_reading good')
+
+pub loop-i-init : goal.loop-i-init
+loop-i-init c = (search rules, travelled_none)
+
+pub way_on-e-requires : goal.way_on-e-requires
+way_on-e-requires c = (c.loop-i.invariant.1.last_reading, good (goal.at.way_on-e-requires c).In-loop-i)
+
+pub overflow_add-up : goal.overflow_add-up
+overflow_add-up c = omega (arith, way c, c.loop-i.invariant.1.up_small)
+
+pub turn_back-back-requires : goal.turn_back-back-requires
+turn_back-back-requires c = omega (arith, way c)
+
+pub overflow_add-back : goal.overflow_add-back
+overflow_add-back c =
+    omega (arith, c.loop-i.invariant.1.down_small, off_small c.args.cycle c.way_on-e.result, c.turn_back-back.ensures)
+
+pub loop-i-preserved : goal.loop-i-preserved
+loop-i-preserved c =
+    let l = c.loop-i in
+    (omega arith, travelled_more l.invariant.1 (omega arith) (omega arith) (good (goal.at.loop-i-preserved c).In-loop-i) c.way_on-e.ensures c.turn_back-back.ensures c.later-last.ensures)
+
+pub signed-requires : goal.signed-requires
+signed-requires c = omega (arith, c.loop-i.invariant.1)
+
+pub returns : goal.returns
+returns c = kept c.signed.type_inv ∙ c.signed.ensures ∙ sym (travelled_all c.loop-i.invariant.1 (omega arith))
