@@ -15,7 +15,7 @@ use shape::Shape;
 
 // Number 0 means accepted; any other is a refusal's, with its place.
 #[repr(C)]
-#[derive(Drop)]
+#[derive(Clone, Copy)]
 pub struct Answer {
     pub number: u32,
     pub place: u64,
@@ -23,7 +23,7 @@ pub struct Answer {
 
 // An answer with a value, 0 if the call was refused.
 #[repr(C)]
-#[derive(Drop)]
+#[derive(Clone, Copy)]
 pub struct ValueAnswer {
     pub number: u32,
     pub place: u64,
@@ -32,7 +32,7 @@ pub struct ValueAnswer {
 
 // An answer with the five numbers of a record, 0 if it was refused.
 #[repr(C)]
-#[derive(Drop)]
+#[derive(Clone, Copy)]
 pub struct RecordAnswer {
     pub number: u32,
     pub place: u64,
@@ -46,7 +46,7 @@ pub struct RecordAnswer {
 // An answer of a live window: the value is the phase, 65,535 if none is heard, -1 while the window fills, and 0 if the
 // reading was refused; and how many readings are there.
 #[repr(C)]
-#[derive(Drop)]
+#[derive(Clone, Copy)]
 pub struct WindowAnswer {
     pub number: u32,
     pub place: u64,

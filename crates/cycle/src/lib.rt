@@ -17,20 +17,20 @@ use ticks::{ahead_of, drift_of, signed_step};
 pub use verdicts::{cycle_verdict, highest, next_of, reading_verdict};
 use verdicts::{pair_verdict, row_verdict, slot_verdict};
 
-#[derive(Drop)]
+#[derive(Clone, Copy)]
 pub enum DistanceAnswer {
     Distance(u16),
     Refused(Refusal),
 }
 
 // A step or a drift.
-#[derive(Drop)]
+#[derive(Clone, Copy)]
 pub enum SignedAnswer {
     Signed(i32),
     Refused(Refusal),
 }
 
-#[derive(Drop)]
+#[derive(Clone, Copy)]
 pub enum SlotAnswer {
     Inside,
     Outside,

@@ -16,13 +16,13 @@ use shape::Shape;
 use verdicts::filter_verdict;
 pub use verdicts::room_verdict;
 
-#[derive(Drop)]
+#[derive(Clone, Copy)]
 pub enum Engine {
     Level,
     Reading,
 }
 
-#[derive(Drop)]
+#[derive(Clone, Copy)]
 pub enum FilterAnswer {
     Filtered,
     Refused(Refusal),

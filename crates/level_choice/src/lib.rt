@@ -14,7 +14,7 @@ ghost use Rattle.level_choice.specs.Walk.{Passed, Walked};
 ghost use Rattle.level_choice.specs.Count.{if_equal, count_of, places_of};
 
 // The ticks with the least sum: how many they are, and the sum of their places.
-#[derive(Drop)]
+#[derive(Clone, Copy)]
 struct Tally {
     count: u32,
     places: u32,

@@ -24,7 +24,7 @@ pub const PLACES: usize = LIVE_LENGTH as usize;
 
 // The paper's C and T, how many of the T were pushed, and for each of the T the reading and its sum. The
 // places behind them are silent, with the sum 0, and so are all T in a fresh window.
-#[derive(Drop)]
+#[derive(Clone, Copy)]
 pub struct LiveWindow {
     pub cycle: u32,
     pub length: u32,
@@ -33,13 +33,13 @@ pub struct LiveWindow {
     pub sums: [u16; PLACES],
 }
 
-#[derive(Drop)]
+#[derive(Clone, Copy)]
 pub enum FreshAnswer {
     Fresh,
     Refused(Refusal),
 }
 
-#[derive(Drop)]
+#[derive(Clone, Copy)]
 pub enum LiveAnswer {
     // Fewer than T readings so far.
     Filling,
@@ -50,21 +50,21 @@ pub enum LiveAnswer {
 }
 
 // What a new window or a reset is answered, and the window.
-#[derive(Drop)]
+#[derive(Clone, Copy)]
 pub struct Made {
     pub told: FreshAnswer,
     pub window: LiveWindow,
 }
 
 // What a push is answered, and the window after it.
-#[derive(Drop)]
+#[derive(Clone, Copy)]
 pub struct Pushed {
     pub told: LiveAnswer,
     pub window: LiveWindow,
 }
 
 // What a push in place is answered, and how many readings are there now.
-#[derive(Drop)]
+#[derive(Clone, Copy)]
 pub struct Entered {
     pub told: LiveAnswer,
     pub filled: u32,

@@ -11,14 +11,14 @@ use record_write::{put_record, write_verdict};
 use refusal::{Refusal, Verdict};
 use shape::Shape;
 
-#[derive(Drop)]
+#[derive(Clone, Copy)]
 pub enum ReadAnswer {
     Read(Shape),
     Refused(Refusal),
 }
 
 // The record's length.
-#[derive(Drop)]
+#[derive(Clone, Copy)]
 pub enum WriteAnswer {
     Written(usize),
     Refused(Refusal),

@@ -13,7 +13,7 @@ use shape::Shape;
 pub use stores::store_rows;
 
 // What the tests of the first three fields find: the five numbers that these hold, or the first refusal that is due.
-#[derive(Drop)]
+#[derive(Clone, Copy)]
 pub enum HeadAnswer {
     Headed(Shape),
     Refused(Refusal),

@@ -9,7 +9,7 @@ ghost use Rattle.std.specs.Prelude.{◌≡◌};
 ghost use Rattle.refusal.specs.Outcome.{range_rules, first_due, verdict, and_then};
 ghost use Rattle.refusal.specs.Table.{number_of, place_of};
 
-#[derive(Drop)]
+#[derive(Clone, Copy)]
 pub enum Refusal {
     // 1: the cycle is 0 or longer than the call takes.
     Cycle,
@@ -40,7 +40,7 @@ pub enum Refusal {
 }
 
 // What a group of tests finds: nothing, or the first refusal that is due.
-#[derive(Drop)]
+#[derive(Clone, Copy)]
 pub enum Verdict {
     Passed,
     Refused(Refusal),

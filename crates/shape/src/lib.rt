@@ -14,7 +14,7 @@ use refusal::limits::{MOST_COLUMNS, MOST_MASK_COLUMNS, MOST_MASK_ROWS, MOST_ROWS
 use refusal::{Refusal, Verdict, first_of, range_verdict};
 
 // The paper's C, M, N, R and T.
-#[derive(Drop)]
+#[derive(Clone, Copy)]
 pub struct Shape {
     pub cycle: u32,
     pub rows: u32,

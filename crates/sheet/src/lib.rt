@@ -20,7 +20,7 @@ pub use sheet_lines::MOST_TEXT;
 use sheet_lines::{put_lines, put_refusal};
 
 // The length of the whole text. Where it is above that of the text memory, the text was cut.
-#[derive(Drop)]
+#[derive(Clone, Copy)]
 pub enum SheetAnswer {
     Printed(usize),
     Refused(Refusal, usize),

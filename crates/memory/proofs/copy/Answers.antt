@@ -1,0 +1,17 @@
+use Rattle.std.proofs.Common.{◌+◌, ◌-◌, ◌≤◌, arith, rules}
+use Rattle.memory.proofs.Memory.{changed_start, changed_turn, changed_done}
+use Rattle.memory.specs.Parts.{copied}
+use Rattle.memory.specs.Memory.{Changed}
+use Rattle.memory.proofs.copy.Goals as goal
+
+pub loop-q-init : goal.loop-q-init
+loop-q-init c = (search rules, changed_start)
+
+pub loop-q-preserved : goal.loop-q-preserved
+loop-q-preserved c =
+    let l = c.loop-q in
+    let a = c.args in
+    (omega arith, changed_turn l.invariant.1 (omega arith) (l.invariant.1.before (a.start + l.q) (omega arith)))
+
+pub returns : goal.returns
+returns c = changed_done c.loop-q.invariant.1 (omega arith)

@@ -1,0 +1,12 @@
+-- `memory::copy` meets its contract. Assumes nothing.
+use Rattle.std.proofs.Common.{◌+◌, ◌-◌, ◌≤◌, arith, rules}
+use Rattle.memory.proofs.Memory.{changed_start, changed_turn, changed_done}
+use Rattle.memory.specs.Parts.{copied}
+use Rattle.memory.specs.Memory.{Changed}
+use Rattle.memory.proofs.copy.Given as goal
+
+abbrev pub invariant-loop-q : goal.invariant-loop-q
+invariant-loop-q l = (l.q ≤ l.n) × Changed l.initial.work l.work l.to l.q (copied l.initial.work l.start)
+
+abbrev pub decreases-loop-q : goal.decreases-loop-q
+decreases-loop-q l = l.n - l.q

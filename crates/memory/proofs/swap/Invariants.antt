@@ -1,0 +1,13 @@
+-- `memory::swap` meets its contract. Assumes nothing.
+use Rattle.std.proofs.Common.{◌+◌, ◌-◌, ◌≤◌, get_or, arith, rules}
+use Rattle.memory.proofs.Memory.{changed_start, changed_adjusted, changed_done}
+use Rattle.memory.specs.Parts.{swapped}
+use Rattle.memory.specs.Memory.{Changed}
+use Rattle.lists.proofs.Difference.{adjusted_by_code}
+use Rattle.memory.proofs.swap.Given as goal
+
+abbrev pub invariant-loop-q : goal.invariant-loop-q
+invariant-loop-q l = (l.q ≤ l.n) × Changed l.initial.work l.work l.base l.q (swapped l.initial.work l.base l.table l.entering l.leaving)
+
+abbrev pub decreases-loop-q : goal.decreases-loop-q
+decreases-loop-q l = l.n - l.q
