@@ -1,0 +1,14 @@
+-- `text::put_decimal` meets its contract. Assumes nothing.
+use Prim.Native.Nat.{◌<◌}
+use mathlib.Core.Path.{refl}
+use native.Mathlib.Omega.{arith}
+use borrow.Author.Rules.{rules}
+use lib.ListN.{replicate}
+use Rattle.text.proofs.DigitLaws.{Digits, digits-start, digits_left, digits_turn, digits-end}
+use Rattle.text.proofs.put_decimal.Given as goal
+
+abbrev pub invariant-loop-rest : goal.invariant-loop-rest
+invariant-loop-rest l = Digits l.n l.digits l.rest l.first
+
+abbrev pub decreases-loop-rest : goal.decreases-loop-rest
+decreases-loop-rest l = l.rest
