@@ -7,14 +7,14 @@ use Rattle.memory.specs.Parts.{copied}
 use Rattle.level_choice.specs.Count.{count_of, places_of}
 use Rattle.level_choice.proofs.Count.{sum-none, sum_turn, sum_most}
 use Rattle.level_choice.proofs.tally_of.Goals as goal
-use Rattle.level_choice.proofs.tally_of.Goals.{After-if_equal-count, After-if_equal-places, At-loop-q}
+use Rattle.level_choice.proofs.tally_of.Goals.{After-if_equal-count, After-if_equal-places}
 
 -- each of the two sums goes on, and stays below 2 ^ 32
 counted : (c : After-if_equal-count) → let a = c.args in
     let r = c.loop-q.count + c.if_equal-count.result in
     (r ≡ count_of (copied a.work.now a.base) a.least (c.loop-q.q + 1)) × (r ≤ (c.loop-q.q + 1) * 1)
 counted c =
-    let (?at At-loop-q) = c.loop-q in
+    let l = c.loop-q in
     let a = c.args in
     let f = copied a.work.now a.base in
     let e = sum_turn f a.least (λ q. 1) l.q l.invariant.1 refl c.if_equal-count.ensures in
@@ -24,7 +24,7 @@ placed : (c : After-if_equal-places) → let a = c.args in
     let r = c.loop-q.places + c.if_equal-places.result in
     (r ≡ places_of (copied a.work.now a.base) a.least (c.loop-q.q + 1)) × (r ≤ (c.loop-q.q + 1) * longest_cycle)
 placed c =
-    let (?at At-loop-q) = c.loop-q in
+    let l = c.loop-q in
     let a = c.args in
     let f = copied a.work.now a.base in
     let e = sum_turn f a.least (λ q. q) l.q l.invariant.2 refl c.if_equal-places.ensures in
