@@ -3,14 +3,15 @@
 // with the file stdout, is all that it does.
 #![tactic(auto)]
 
-use libc::STDOUT_FILENO;
+// Standard output.
+const STDOUT: i32 = 1;
 
 const TICKS: u16 = 360;
 
 // "each number followed by a comma and a line feed"
 fn print_line(n: u16) {
-    io::print_decimal(STDOUT_FILENO, n as u64);
-    io::write_all(STDOUT_FILENO, b",\n");
+    io::print_decimal(STDOUT, n as u64);
+    io::write_all(STDOUT, b",\n");
 }
 
 fn print_list() {

@@ -7,8 +7,10 @@ ghost use Rattle.io.specs.Counts.{IsPrefixLen};
 
 use crate::counts::{LARGEST, least, minus, plus, times};
 use crate::marks::fill;
-use libc::STDIN_FILENO;
 use shape::Shape;
+
+// Standard input.
+const STDIN: i32 = 0;
 
 // The most bytes that a program reads, and the most numbers of a line.
 pub const MOST_INPUT: usize = 524288;
@@ -26,7 +28,7 @@ const OF: u8 = b'f';
 pub fn input(bytes: &mut [u8]) -> usize
     ensures { IsPrefixLen result bytes.new }
 {
-    io::read_full(STDIN_FILENO, bytes)
+    io::read_full(STDIN, bytes)
 }
 
 // The first place from a place on that holds a byte, or the end.

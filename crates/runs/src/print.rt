@@ -1,14 +1,16 @@
 // Printing to standard output: text, numbers, shapes, refusals, and whether memory was kept.
-use libc::STDOUT_FILENO;
 use refusal::Refusal;
 use shape::Shape;
 
+// Standard output.
+const STDOUT: i32 = 1;
+
 pub fn say(text: &[u8]) {
-    io::write_all(STDOUT_FILENO, text);
+    io::write_all(STDOUT, text);
 }
 
 pub fn say_number(n: u64) {
-    io::print_decimal(STDOUT_FILENO, n);
+    io::print_decimal(STDOUT, n);
 }
 
 // A number after a space.

@@ -8,9 +8,13 @@ ghost use Rattle.std.specs.Prelude.{◌≡◌, ◌≤◌, length};
 ghost use Rattle.sheet_lines.specs.Lines.{most_text};
 ghost use Rattle.sheet.specs.Sheet.{text_length, SheetCall};
 
-use libc::{STDIN_FILENO, STDOUT_FILENO};
 use refusal::limits::MOST_BYTES;
 use sheet::{MOST_TEXT, SheetAnswer, sheet};
+
+// Standard input and standard output.
+const STDIN: i32 = 0;
+
+const STDOUT: i32 = 1;
 
 // "Its work memory has 16,384 numbers, its readings and output buffers 8,192 each."
 const BUFFER: usize = 8192;
@@ -41,7 +45,7 @@ pub fn print_sheet(
     let start = 0;
     let answer = sheet(bytes, readings, output, work, text);
     let end = text_length(answer);
-    io::write_all(STDOUT_FILENO, &text[start..end]);
+    io::write_all(STDOUT, &text[start..end]);
     answer
 }
 
@@ -53,7 +57,7 @@ pub fn print_input() {
     let mut output = [0u16; BUFFER];
     let mut work = [0u32; WORK];
     let mut text = [0u8; MOST_TEXT];
-    let n = io::read_full(STDIN_FILENO, &mut record);
+    let n = io::read_full(STDIN, &mut record);
     print_sheet(
         &record[..n],
         &mut readings,

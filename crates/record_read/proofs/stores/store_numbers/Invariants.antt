@@ -1,0 +1,17 @@
+-- `record_read::stores::store_numbers` meets its contract. Assumes nothing.
+use Prim.Native.Nat.{◌+◌, ◌-◌, ◌≤◌}
+use mathlib.Core.Path.{◌≡◌}
+use mathlib.Core.List.{[], ◌∷◌}
+use native.Mathlib.Omega.{arith}
+use borrow.Author.Rules.{rules}
+use Rattle.lists.proofs.Stores.{Stored, stored_none, stored_more}
+use Rattle.record_format.specs.Layout.{numbers_length}
+use Rattle.record_format.specs.Fields.{number_at, numbers_at}
+use Rattle.record_format.proofs.FieldRead.{length-numbers_at, numbers_at_last}
+use Rattle.record_read.proofs.stores.store_numbers.Given as goal
+
+abbrev pub invariant-loop-k : goal.invariant-loop-k
+invariant-loop-k l = (l.k ≤ l.n) × Stored l.initial.readings l.start (numbers_at l.bytes l.at l.k) l.readings
+
+abbrev pub decreases-loop-k : goal.decreases-loop-k
+decreases-loop-k l = l.n - l.k

@@ -1,0 +1,13 @@
+-- `sheet_lines::put_phase_word` meets its contract. Assumes nothing.
+use native.Mathlib.Omega.{arith}
+use borrow.Author.Rules.{rules}
+use Rattle.sheet_lines.proofs.WordLaws.{word_silent, word_heard}
+use Rattle.sheet_lines.proofs.put_phase_word.Goals as goal
+
+pub returns-then-phase-eq-SILENT : goal.returns-then-phase-eq-SILENT
+returns-then-phase-eq-SILENT c =
+    rw (word_silent c.args.phase (omega arith)) c.put_byte.ensures
+
+pub returns : goal.returns
+returns c =
+    rw (word_heard c.args.phase (λ e. omega arith)) c.put_decimal.ensures
