@@ -7,7 +7,7 @@ use Rattle.text.proofs.TextLaws.{laid_more}
 use Rattle.sheet_lines.specs.Words.{cycle_word, rows_word, columns_word, mask_word, space}
 use Rattle.sheet_lines.proofs.Lengths.{counted_most}
 use Rattle.sheet_lines.proofs.put_head.Goals as goal
-use Rattle.sheet_lines.proofs.put_head.Goals.{After-put_counted-columns, After-put_counted-end, After-put_counted-mask, After-put_counted-rows, After-put_counted-side, After-text-1, After-text-2-1, After-text-3-1, After-text-4-1}
+use Rattle.sheet_lines.proofs.put_head.Goals.{After-put_counted-columns, After-put_counted-end, After-put_counted-mask, After-put_counted-rows, After-put_counted-side}
 
 -- the place after each
 after_first : (c : After-put_counted-rows) → c.put_counted-rows.result ≤ 26
@@ -40,23 +40,23 @@ after-fifth c =
     omega (arith, after-fourth', c.put_counted-end.ensures.after, counted_most space c.args.shape.mask_columns)
 
 pub put_counted-columns-requires : goal.put_counted-columns-requires
-put_counted-columns-requires c = omega (arith, after_first (goal.at.put_counted-columns-requires c).After-text-1)
+put_counted-columns-requires c = omega (arith, after_first (goal.at.put_counted-columns-requires c).After-put_counted-rows)
 
 pub put_counted-mask-requires : goal.put_counted-mask-requires
-put_counted-mask-requires c = omega (arith, after-second (goal.at.put_counted-mask-requires c).After-text-2-1)
+put_counted-mask-requires c = omega (arith, after-second (goal.at.put_counted-mask-requires c).After-put_counted-columns)
 
 pub put_counted-side-requires : goal.put_counted-side-requires
-put_counted-side-requires c = omega (arith, after-third (goal.at.put_counted-side-requires c).After-text-3-1)
+put_counted-side-requires c = omega (arith, after-third (goal.at.put_counted-side-requires c).After-put_counted-mask)
 
 pub put_counted-end-requires : goal.put_counted-end-requires
-put_counted-end-requires c = omega (arith, after-fourth (goal.at.put_counted-end-requires c).After-text-4-1)
+put_counted-end-requires c = omega (arith, after-fourth (goal.at.put_counted-end-requires c).After-put_counted-side)
 
 pub put_byte-requires : goal.put_byte-requires
 put_byte-requires c = omega (arith, after-fifth (goal.at.put_byte-requires c).After-put_counted-end)
 
 pub shape_of-text : goal.shape_of-text
 shape_of-text c =
-    c.put_byte.auto.0 ∙ c.put_counted-end.auto.text ∙ c.put_counted-side.auto.text ∙ c.put_counted-mask.auto.text ∙ c.put_counted-columns.auto.text
+    c.put_byte.auto.text ∙ c.put_counted-end.auto.text ∙ c.put_counted-side.auto.text ∙ c.put_counted-mask.auto.text ∙ c.put_counted-columns.auto.text
     ∙ c.put_counted-rows.auto.text
 
 pub returns : goal.returns

@@ -82,8 +82,8 @@ loop-i-preserved c =
     let p = c.put_row-place in
     let n = a.shape.columns in
     let e : l.i * n + n - l.i * n ≡ n = omega arith in
-    let f : (ℕ → List ℕ) = λ k. row_line a.shape.cycle (goal.at.loop-i-preserved c).In-loop-i (row_of a.shape.columns a.phases.now (goal.at.loop-i-preserved c).In-loop-i) in (
-      omega (arith, c.loop-i-test.true),
+    let f : (ℕ → List ℕ) = λ k. row_line a.shape.cycle k (row_of a.shape.columns a.phases.now k) in (
+      omega (arith, k.if1.true),
       subst (λ (w : List ℕ). Laid h.last.0 h.result w p.result p.new.0) (sym (joined_more f l.i))
           (laid_more l.invariant.1 (rw e at p.ensures)),
     )

@@ -27,5 +27,5 @@ put_byte-requires c =
 
 pub returns : goal.returns
 returns c =
-    subst (λ (l : List ℕ). Laid c.args.text.now 0 l c.put_byte.result c.put_byte.new.0)
+    subst (λ (l : List ℕ). Laid c.args.text.now 0 l c.put_byte.result c.put_byte.new.text)
     (ap₂ refusal_line c.number.ensures c.place.ensures) (laid_more c.put_counted-place.ensures (laid_more c.put_counted-end.ensures c.put_byte.ensures))

@@ -13,7 +13,7 @@ use Rattle.text.proofs.TextLaws.{signed_most}
 use Rattle.sheet_lines.specs.Words.{row_word}
 use Rattle.sheet_lines.proofs.Lengths.{counted_most, words_most}
 use Rattle.sheet_lines.proofs.put_row.Goals as goal
-use Rattle.sheet_lines.proofs.put_row.Goals.{After-put_bytes-number, After-put_phases-word, After-put_signed-end, After-text-3-1}
+use Rattle.sheet_lines.proofs.put_row.Goals.{After-put_bytes-number, After-put_phases-word, After-put_signed-end}
 
 -- the place after the phases, after the word and after the drift
 after-phases : (p : After-put_phases-word) → p.put_phases-word.result + 29 < 2 ^ 64
@@ -69,7 +69,7 @@ put_phases-word-requires c =
 
 pub put_bytes-number-requires : goal.put_bytes-number-requires
 put_bytes-number-requires c =
-    let h = after-phases (goal.at.put_bytes-number-requires c).After-text-3-1 in
+    let h = after-phases (goal.at.put_bytes-number-requires c).After-put_phases-word in
     omega (arith, h)
 
 pub put_signed-end-requires : goal.put_signed-end-requires

@@ -24,12 +24,12 @@ inside c =
     let s = a.shape in
     let k = sizes' in
     spot_below s.rows s.columns _ _
-    (omega (arith, c.mirrored-row.ensures, mirror_below s.rows (reach s.mask_rows) a.row-position k.rows_some))
-    (omega (arith, c.mirrored-column.ensures, mirror_below s.columns (reach s.mask_columns) a.column-position k.columns_some))
+    (omega (arith, c.mirrored-row.ensures, mirror_below s.rows (reach s.mask_rows) a.row_position k.rows_some))
+    (omega (arith, c.mirrored-column.ensures, mirror_below s.columns (reach s.mask_columns) a.column_position k.columns_some))
 
 reading : (c : After-mirrored-column) → let a = c.args in
     get_or a.image.now (c.mirrored-row.result * a.shape.columns + c.mirrored-column.result) 0
-    ≡ padded 0 a.shape a.image.now a.row-position a.column-position
+    ≡ padded 0 a.shape a.image.now a.row_position a.column_position
 unfolding padded
 reading c =
     let a = c.args in
@@ -56,7 +56,7 @@ bounds-image-place c = omega (arith, inside (goal.at.bounds-image-place c).After
 pub part_of-requires : goal.part_of-requires
 part_of-requires c =
     let a = c.args in
-    ((sizes (goal.at.part_of-requires c).Start).cycle_fits, rw (reading (goal.at.part_of-requires c).After-mirrored-column) (padded-reading c.requires (omega arith) a.row-position a.column-position))
+    ((sizes (goal.at.part_of-requires c).Start).cycle_fits, rw (reading (goal.at.part_of-requires c).After-mirrored-column) (padded-reading c.requires (omega arith) a.row_position a.column_position))
 
 pub returns : goal.returns
 returns c = rw (reading (goal.at.returns c).After-mirrored-column) at c.part_of.ensures

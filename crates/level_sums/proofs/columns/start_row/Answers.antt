@@ -14,7 +14,7 @@ use Rattle.level_sums.proofs.columns.start_row.Goals as goal
 use Rattle.level_sums.proofs.columns.start_row.Goals.{After-first_change}
 
 abbrev memory : After-first_change → List ℕ
-memory c = c.first_change.new.1.1.0
+memory c = c.first_change.new.work
 
 -- what the pass over column 0 computes
 passed : (c : After-first_change) → let a = c.args in

@@ -20,9 +20,8 @@ numbers s = numbers_at s.args.bytes.now s.args.at s.args.n
 numbers-length : (s : Start) → length (numbers s) ≡ s.args.n
 numbers-length s = length-numbers_at s.args.bytes.now s.args.at s.args.n
 
-is_read : (c : After-number_at) → get_or numbers' c.loop-k.k 0 ≡ c.number_at.result
+is_read : (c : After-number_at) → get_or ((numbers_at c.args.bytes.now c.args.at c.args.n)) c.loop-k.k 0 ≡ c.number_at.result
 is_read c =
-    let numbers' : List ℕ = numbers_at c.args.bytes.now c.args.at c.args.n in
     let a = c.args in
     get_or-numbers_at a.bytes.now a.at a.n c.loop-k.k (omega arith) ∙ sym c.number_at.ensures
 

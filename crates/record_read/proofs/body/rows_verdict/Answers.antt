@@ -64,7 +64,7 @@ row_field_verdict-requires c =
       row_fits = omega (arith, rows_are (goal.at.row_field_verdict-requires c).Start, (head (goal.at.row_field_verdict-requires c).Start).rows_fit);
       columns_are = columns_are (goal.at.row_field_verdict-requires c).Start;
       columns_fit = omega (arith, columns_are (goal.at.row_field_verdict-requires c).Start, (head (goal.at.row_field_verdict-requires c).Start).columns_fit);
-      cycle_is = ap (λ ((goal.at.row_field_verdict-requires c).Start : Shape). c.cycle) c.requires.0;
+      cycle_is = ap (λ (s : Shape). s.cycle) c.requires.0;
     }
 
 pub returns-in-Refused : goal.returns-in-Refused

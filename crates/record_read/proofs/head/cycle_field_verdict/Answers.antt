@@ -15,8 +15,8 @@ use Rattle.record_read.proofs.head.cycle_field_verdict.Goals as goal
 use Rattle.record_read.proofs.head.cycle_field_verdict.Goals.{Start}
 
 -- the tests of the field
-abbrev rules : Start → List Rule
-rules c = field_rules c.args.bytes.now cycle_field_at cycle_tag (numbers_length 1)
+abbrev tests_due : Start → List Rule
+tests_due c = field_rules c.args.bytes.now cycle_field_at cycle_tag (numbers_length 1)
 
 pub number_at-requires : goal.number_at-requires
 number_at-requires c =
@@ -25,10 +25,10 @@ number_at-requires c =
 
 pub returns-in-Refused : goal.returns-in-Refused
 returns-in-Refused c =
-    sym (refused-before (rules (goal.at.returns-in-Refused c).Start) c.field_verdict.ensures tt _ c.in-Refused.is)
+    sym (refused-before (tests_due (goal.at.returns-in-Refused c).Start) c.field_verdict.ensures tt _ c.in-Refused.is)
 
 pub returns-in-Passed : goal.returns-in-Passed
 returns-in-Passed c =
     let values = cycle_rules longest_cycle (cycle_in c.args.bytes.now) in
-    let on = passed_on (rules (goal.at.returns-in-Passed c).Start) c.field_verdict.ensures (tt {0}) values c.in-Passed.is in
+    let on = passed_on (tests_due (goal.at.returns-in-Passed c).Start) c.field_verdict.ensures (tt {0}) values c.in-Passed.is in
     c.cycle_verdict.ensures ∙ ap (λ n. first_due (cycle_rules longest_cycle n) (tt {0})) c.number_at.ensures ∙ sym on

@@ -14,8 +14,8 @@ use Rattle.record_read.proofs.head.size_field_verdict.Goals as goal
 use Rattle.record_read.proofs.head.size_field_verdict.Goals.{In-Passed, Start}
 
 -- the tests of the field
-abbrev rules : Start → List Rule
-rules c = field_rules c.args.bytes.now size_field_at size_tag (numbers_length 2)
+abbrev tests_due : Start → List Rule
+tests_due c = field_rules c.args.bytes.now size_field_at size_tag (numbers_length 2)
 
 -- the field is there
 passed : (c : In-Passed) → FieldAt c.args.bytes.now size_field_at size_tag (numbers_length 2)
@@ -29,11 +29,11 @@ number_at-requires-in-Passed c = omega (arith, (passed (goal.at.number_at-requir
 
 pub returns-in-Refused : goal.returns-in-Refused
 returns-in-Refused c =
-    sym (refused-before (rules (goal.at.returns-in-Refused c).Start) c.field_verdict.ensures tt _ c.in-Refused.is)
+    sym (refused-before (tests_due (goal.at.returns-in-Refused c).Start) c.field_verdict.ensures tt _ c.in-Refused.is)
 
 pub returns-in-Passed : goal.returns-in-Passed
 returns-in-Passed c =
     let b = c.args.bytes.now in
     let values = size_rules (rows_in b) (columns_in b) in
-    let on = passed_on (rules (goal.at.returns-in-Passed c).Start) c.field_verdict.ensures (tt {0}) values c.in-Passed.is in
+    let on = passed_on (tests_due (goal.at.returns-in-Passed c).Start) c.field_verdict.ensures (tt {0}) values c.in-Passed.is in
     c.size_verdict.ensures ∙ rw (c.number_at.ensures, c.number_at-in-Passed.ensures) (sym on)

@@ -1,0 +1,13 @@
+-- `runs::cases::numbers_of` meets its contract. Assumes nothing.
+use Prim.Native.Nat.{◌≤◌, ◌-◌}
+use mathlib.Core.Path.{◌≡◌}
+use Rattle.runs.proofs.CountLaws.{counted}
+use lib.ListN.{length}
+use borrow.Author.Rules.{rules}
+use Rattle.runs.proofs.cases.numbers_of.Given as goal
+
+abbrev pub invariant-loop-i : goal.invariant-loop-i
+invariant-loop-i l = (l.i ≤ length l.text) × (length l.numbers ≡ length l.initial.numbers)
+
+abbrev pub decreases-loop-i : goal.decreases-loop-i
+decreases-loop-i l = length l.text - l.i
