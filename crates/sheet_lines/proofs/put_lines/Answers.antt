@@ -29,7 +29,14 @@ inside s i h =
 -- the row of a turn lies within the phases
 row_inside : (c : In-loop-i) → let i = c.loop-i.i in let n = c.args.shape.columns in
     (i * n + n ≤ length c.args.phases.now) × (i * n + n ≤ most_rows * most_columns)
-row_inside c = inside (?at Start) c.loop-i.i c.loop-i-test.true
+row_inside c =
+    let inside' : (i : ℕ) → i < c.args.shape.rows
+    → (i * c.args.shape.columns + c.args.shape.columns ≤ length c.args.phases.now)
+    × (i * c.args.shape.columns + c.args.shape.columns ≤ most_rows * most_columns) = λ i h. let n = c.args.shape.columns in
+    let all : c.args.shape.rows * n ≤ most_rows * most_columns =
+    mul-le-mul {n₁ = c.args.shape.rows} {m₁ = n} {n₂ = most_rows} {m₂ = most_columns} c.requires.rows_le_most_rows.0 c.requires.rows_le_most_rows.1 in
+    (omega (arith, mul-le-mul_right n h, c.requires.rows_le_most_rows.2), omega (arith, mul-le-mul_right n h, all)) in
+    inside' c.loop-i.i c.loop-i-test.true
 
 -- the place after the line of a turn fits
 place-fits : (c : In-loop-i) → c.loop-i.place + 54 + 21 * c.args.shape.columns < 2 ^ 64
@@ -83,8 +90,8 @@ loop-i-preserved c =
     let n = a.shape.columns in
     let e : l.i * n + n - l.i * n ≡ n = omega arith in
     let f : (ℕ → List ℕ) = λ k. row_line a.shape.cycle k (row_of a.shape.columns a.phases.now k) in (
-      omega (arith, k.if1.true),
-      subst (λ (w : List ℕ). Laid h.last.0 h.result w p.result p.new.0) (sym (joined_more f l.i))
+      omega (arith, c.loop-i-test.true),
+      subst (λ (w : List ℕ). Laid h.new.text h.result w p.result p.new.text) (sym (joined_more f l.i))
           (laid_more l.invariant.1 (rw e at p.ensures)),
     )
 

@@ -28,7 +28,7 @@ loop-i-preserved c =
     let a = c.args in
     let p = c.put_phase-place in (
       omega arith,
-      subst (λ (w : List ℕ). Laid a.text.now a.at w p.result p.new.0) (words_more a.row.now l.i c.loop-i-test.true)
+      subst (λ (w : List ℕ). Laid a.text.now a.at w p.result p.new.text) (words_more a.row.now l.i c.loop-i-test.true)
           (laid_more l.invariant.1 p.ensures),
     )
 

@@ -12,6 +12,7 @@ use Rattle.text.specs.Text.{signed}
 use Rattle.text.proofs.TextLaws.{signed_most}
 use Rattle.sheet_lines.specs.Words.{row_word}
 use Rattle.sheet_lines.proofs.Lengths.{counted_most, words_most}
+use Rattle.cycle.proofs.SignedLaws.{kept}
 use Rattle.sheet_lines.proofs.put_row.Goals as goal
 use Rattle.sheet_lines.proofs.put_row.Goals.{After-put_bytes-number, After-put_phases-word, After-put_signed-end}
 
@@ -83,7 +84,7 @@ put_byte-requires c = after-number (goal.at.put_byte-requires c).After-put_signe
 pub returns : goal.returns
 returns c =
     let r = c.row_drift in
-    let is = to_z-of_z {w = w32} (record { sfits = r.ok }) ∙ r.ensures in
+    let is = kept r.type_inv ∙ r.ensures in
     laid_more c.put_counted-name.ensures
     (laid_more c.put_byte-phases.ensures
     (laid_more c.put_phases-word.ensures

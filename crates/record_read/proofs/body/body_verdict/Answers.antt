@@ -32,6 +32,7 @@ end_is : (c : In-Passed) → let a = c.args in
 end_is c = let a = c.args in end_of a.bytes.now a.shape _ c.requires.0 c.mask_due-start.ensures
 
 end-within : (c : In-Passed) → let b = c.args.bytes.now in end_at b ≤ length b
+unfolding row_at
 end-within c =
     let start_is' : mask_rows_at + c.mask_due-start.result ≡ row_at c.args.bytes.now 0 = omega (arith, c.mask_due-start.ensures) in
     let start-within' : mask_rows_at + c.mask_due-start.result ≤ length c.args.bytes.now = omega (arith, c.mask_due-start.ensures, c.requires.1.whole) in
