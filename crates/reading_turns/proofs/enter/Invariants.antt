@@ -1,0 +1,19 @@
+-- `reading_turns::enter` meets its contract: after the sweep ahead plane 0 is due and weighed, and each turn of the sweep behind does the same
+-- for the plane after it. Assumes nothing.
+use Prim.Native.Nat.{◌+◌, ◌-◌}
+use mathlib.Core.Path.{refl, sym, ◌∙◌}
+use native.Mathlib.Omega.{arith}
+use borrow.Author.Rules.{rules}
+use Rattle.lines.specs.Lines.{IsLine}
+use Rattle.reading_planes.specs.Planes.{of_rows, none}
+use Rattle.reading_planes.proofs.Sums.{line_room}
+use Rattle.reading_turns.proofs.Turn.{scratch_kept, position_fits, lay, laid_sizes, laid-room}
+use Rattle.reading_turns.proofs.Turn.{Turn, turn_built, weigh_asked, turn_weighed, next-room, turn_next, turn_last}
+use Rattle.reading_turns.proofs.enter.Given as goal
+
+abbrev pub invariant-loop-l : goal.invariant-loop-l
+invariant-loop-l l = Turn l.shape l.image l.own l.centres l.i l.k l.initial.plane (of_rows l.shape l.image l.i l.own) none l.initial.work l.work l.change l.step l.least l.nearest l.l (l.l + 1) l.plane
+    × IsLine l.row × IsLine l.other
+
+abbrev pub decreases-loop-l : goal.decreases-loop-l
+decreases-loop-l l = l.shape.mask_columns - l.l
