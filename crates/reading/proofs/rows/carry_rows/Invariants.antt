@@ -1,0 +1,17 @@
+-- `reading::rows::carry_rows` meets its contract: mask row after mask row has the sums of row i, and the others still those of the row
+-- before it. Assumes nothing.
+use Prim.Native.Nat.{◌+◌, ◌-◌, ◌≤◌}
+use mathlib.Core.Path.{◌≡◌, sym, ◌∙◌}
+use native.Mathlib.Omega.{arith}
+use Rattle.memory.proofs.Memory.{outside-none}
+use Rattle.lines.proofs.Given.{given_kept}
+use Rattle.reading_planes.specs.Sums.{MaskSums}
+use Rattle.reading_planes.proofs.Sums.{sizes}
+use Rattle.reading.proofs.Kept.{MaskRows, mask_rows_next, sums_left}
+use Rattle.reading.proofs.rows.carry_rows.Given as goal
+
+abbrev pub invariant-loop-k : goal.invariant-loop-k
+invariant-loop-k l = (l.k ≤ l.kept) × MaskRows l.shape l.image l.i l.k l.initial.work l.work l.own l.change l.step l.least l.nearest × MaskSums l.shape l.image (l.i - 1) l.work (l.i + l.k) (l.i + l.kept)
+
+abbrev pub decreases-loop-k : goal.decreases-loop-k
+decreases-loop-k l = l.kept - l.k
