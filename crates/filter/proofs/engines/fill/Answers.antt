@@ -1,0 +1,30 @@
+-- `filter::engines::fill` meets its contract: each engine's contract is that of its case. Assumes nothing.
+use mathlib.Core.Path.{◌≡◌, subst}
+use lib.ListN.{length}
+use borrow.Author.Rules.{rules}
+use Rattle.lines.specs.Rows.{Fillable}
+use Rattle.filter.specs.Calls.{limit, need}
+use Rattle.filter.specs.declared.Engine.{Engine}
+use Rattle.filter.proofs.engines.fill.Goals as goal
+use Rattle.filter.proofs.engines.fill.Goals.{Start}
+
+by-engine : (s : Start) {e : Engine} → s.args.engine ≡ e → let a = s.args in
+    Fillable (limit e) (need e) a.shape a.image.now a.first a.end (length a.output.now) (length a.work.now)
+by-engine s is =
+    let a = s.args in
+    subst
+    (λ (e : Engine). Fillable (limit e) (need e) a.shape a.image.now a.first a.end (length a.output.now) (length a.work.now))
+    is
+    s.requires
+
+pub fill-requires : goal.fill-requires
+fill-requires c = by-engine (goal.at.fill-requires c).Start c.in-Level.is
+
+pub fill-requires-in-Reading : goal.fill-requires-in-Reading
+fill-requires-in-Reading c = by-engine (goal.at.fill-requires-in-Reading c).Start c.in-Reading.is
+
+pub returns-in-Level : goal.returns-in-Level
+returns-in-Level c = rw c.in-Level.is c.fill.ensures
+
+pub returns-in-Reading : goal.returns-in-Reading
+returns-in-Reading c = rw c.in-Reading.is c.fill-in-Reading.ensures

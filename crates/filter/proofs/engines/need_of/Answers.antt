@@ -1,0 +1,20 @@
+-- `filter::engines::need_of` meets its contract: each engine's need is that of its case. Assumes nothing.
+use mathlib.Core.Path.{ap, sym, ◌∙◌}
+use borrow.Author.Rules.{rules}
+use Rattle.shape.proofs.Accepted.{shape_clear}
+use Rattle.filter.specs.declared.Engine.{Engine}
+use Rattle.filter.specs.Calls.{limit, need}
+use Rattle.filter.proofs.engines.need_of.Goals as goal
+
+pub reading_need-requires : goal.reading_need-requires
+reading_need-requires c =
+    let k = shape_clear (limit c.args.engine) c.args.shape c.requires in
+    (k.mask_rows_fit, k.mask_columns_fit)
+
+pub returns-in-Level : goal.returns-in-Level
+returns-in-Level c =
+    c.level_need.ensures ∙ ap (λ (e : Engine). need e c.args.shape) (sym c.in-Level.is)
+
+pub returns-in-Reading : goal.returns-in-Reading
+returns-in-Reading c =
+    c.reading_need.ensures ∙ ap (λ (e : Engine). need e c.args.shape) (sym c.in-Reading.is)

@@ -1,0 +1,50 @@
+-- `sheet::sheet` meets its contract. Assumes nothing.
+use mathlib.Core.Path.{◌≡◌, ap, sym, ◌∙◌}
+use borrow.Author.Rules.{rules}
+use lib.ListN.{length}
+use Rattle.refusal.specs.Outcome.Outcome.{accepted}
+use Rattle.record.specs.Calls.{read_outcome}
+use Rattle.sheet.specs.Sheet.{sheet_due}
+use Rattle.sheet.proofs.Calls.{SheetAccepted, sheet_accepted, output_sizes, output_clear, output-text, refused_sheet, printed_sheet}
+use Rattle.sheet.proofs.Fits.{told-fits}
+use Rattle.sheet.proofs.sheet.Goals as goal
+use Rattle.sheet.proofs.sheet.Goals.{After-sheet_verdict, In-Read}
+
+-- what the tests said
+said : (c : After-sheet_verdict) → let a = c.args in
+    read_outcome c.sheet_verdict.result ≡ sheet_due a.bytes.now (length a.readings.now) (length a.output.now) (length a.work.now)
+said c = c.sheet_verdict.ensures
+
+-- they have passed
+passed : (c : In-Read) → let a = c.args in
+    sheet_due a.bytes.now (length a.readings.now) (length a.output.now) (length a.work.now) ≡ accepted c.in-Read.shape
+passed c =
+    let said' : let a = c.args in
+    read_outcome c.sheet_verdict.result ≡ sheet_due a.bytes.now (length a.readings.now) (length a.output.now) (length a.work.now) = c.sheet_verdict.ensures in
+    sym said' ∙ ap read_outcome c.in-Read.is
+
+clear : (c : In-Read) → let a = c.args in
+    SheetAccepted a.bytes.now (length a.readings.now) (length a.output.now) (length a.work.now) c.in-Read.shape
+clear c =
+    let a = c.args in
+    sheet_accepted a.bytes.now (length a.readings.now) (length a.output.now) (length a.work.now) c.in-Read.shape (passed c)
+
+pub filter_record-requires : goal.filter_record-requires
+filter_record-requires c = passed (goal.at.filter_record-requires c).In-Read
+
+pub put_lines-requires : goal.put_lines-requires
+put_lines-requires c =
+    let a = c.args in
+    let is = c.filter_record.ensures.output in record { rows_le_most_rows = output_sizes a.bytes.now a.readings.now a.output.now a.work.now (clear (goal.at.put_lines-requires c).In-Read) is; by_index = output_clear a.bytes.now a.readings.now a.output.now a.work.now (clear (goal.at.put_lines-requires c).In-Read) is }
+
+pub returns-in-Refused : goal.returns-in-Refused
+returns-in-Refused c =
+    let s = refused_sheet (sym (said (goal.at.returns-in-Refused c).After-sheet_verdict) ∙ ap read_outcome c.in-Refused.is) c.put_refusal.ensures in
+    record { sheet_call = s; result_bound = told-fits s }
+
+pub returns-in-Read : goal.returns-in-Read
+returns-in-Read c =
+    let a = c.args in
+    let lines = output-text a.bytes.now a.readings.now a.output.now a.work.now (clear (goal.at.returns-in-Read c).In-Read) c.filter_record.ensures.output in
+    let all = printed_sheet (passed (goal.at.returns-in-Read c).In-Read) c.filter_record.ensures (rw lines at c.put_lines.ensures) in
+    record { sheet_call = all; result_bound = told-fits all }
