@@ -23,7 +23,7 @@ overflow_cast-cycle c = omega (arith, (sizes c).cycle_fits)
 pub enter-requires : goal.enter-requires
 enter-requires c =
     let k = sizes (goal.at.enter-requires c).In-Passed in
-    (k.some, omega (arith, k.fits, c.enter-arg-1.given.0.1), omega (arith, k.fits, c.enter-arg-in-Passed-1.given.0.1))
+    (k.some, omega (arith, k.fits), omega (arith, k.fits))
 
 pub told-requires : goal.told-requires
 told-requires c =
@@ -32,8 +32,8 @@ told-requires c =
       cycle_some = k.cycle_some;
       cycle_fits = k.cycle_fits;
       some = k.some;
-      readings-room = omega (arith, k.fits, c.told-arg-in-Passed-1.given.0);
-      sums-room = omega (arith, k.fits, c.told-arg-in-Passed-3-1.given.0);
+      readings-room = omega (arith, k.fits);
+      sums-room = omega (arith, k.fits);
     }
 
 pub returns-in-Refused : goal.returns-in-Refused
