@@ -133,8 +133,13 @@ fn run_all(bytes: &[u8]) {
     }
 }
 
+// Reads the cases into lent memory and runs them.
+fn run_input(bytes: &mut [u8]) {
+    let n = input(bytes);
+    run_all(&bytes[..n]);
+}
+
 fn main() {
     let mut bytes = [0u8; MOST_INPUT];
-    let n = input(&mut bytes);
-    run_all(&bytes[..n]);
+    run_input(&mut bytes);
 }

@@ -23,7 +23,7 @@ const LEVEL_CYCLE: u32 = 4096;
 const HEAD: usize = 14;
 
 // A case, with the offsets of its readings and of its phases, and the length of both.
-#[derive(Drop)]
+#[derive(Clone, Copy)]
 struct Case {
     shape: Shape,
     first: u32,
@@ -35,7 +35,7 @@ struct Case {
 
 // What lent memory holds. The output has, from its place start up to end, numbers of standard input from an
 // offset on; the work memory has so many zeros first. All else is garbage, which the call's number decides.
-#[derive(Drop)]
+#[derive(Clone, Copy)]
 struct Memory {
     call: usize,
     start: usize,
@@ -45,7 +45,7 @@ struct Memory {
 }
 
 // What is due of a call: its answer, which is 0 or a refusal's number; the rows that it writes; the memory after it.
-#[derive(Drop)]
+#[derive(Clone, Copy)]
 struct Due {
     answer: u32,
     rows: usize,
@@ -55,7 +55,7 @@ struct Due {
 // What was counted of an engine's calls: those that filtered and those refused; rows and phases of the
 // range, phases other than the reading at their place, and the other numbers of the output; work numbers
 // that were 0, and those that had to be garbage still; and what was not as it was due.
-#[derive(Drop)]
+#[derive(Clone, Copy)]
 struct Tally {
     filtered: usize,
     refused: usize,
@@ -68,7 +68,7 @@ struct Tally {
     differences: usize,
 }
 
-#[derive(Drop)]
+#[derive(Clone, Copy)]
 struct Counts {
     images: usize,
     level: Tally,

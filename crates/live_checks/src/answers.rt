@@ -17,7 +17,7 @@ const REFUSED: u32 = 4;
 const ANSWERED: u32 = 5;
 
 // An answer's kind; with it the phase, or the number and the place of a refusal.
-#[derive(Drop)]
+#[derive(Clone, Copy)]
 pub struct Said {
     kind: u32,
     number: u32,

@@ -10,7 +10,7 @@ use runs::counts::after;
 use runs::print::say;
 
 // A window, whether the calls made it, and what was counted.
-#[derive(Drop)]
+#[derive(Clone, Copy)]
 pub struct Run {
     pub window: LiveWindow,
     pub ours: bool,

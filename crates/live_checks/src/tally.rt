@@ -2,7 +2,7 @@
 use runs::counts::{minus, plus};
 use runs::print::say_count;
 
-#[derive(Drop)]
+#[derive(Clone, Copy)]
 pub struct Tally {
     pushes: usize,
     refused: usize,

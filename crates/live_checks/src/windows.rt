@@ -5,7 +5,7 @@ use live::{LiveWindow, PLACES};
 use runs::print::{say, say_number};
 
 // What a call was answered, and the window after it.
-#[derive(Drop)]
+#[derive(Clone, Copy)]
 pub struct Call {
     pub said: Said,
     pub window: LiveWindow,

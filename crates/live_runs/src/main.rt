@@ -109,8 +109,13 @@ fn run_all(bytes: &[u8]) -> Tally {
     tally
 }
 
+// Reads the cases into lent memory, runs them and prints the counts.
+fn run_input(bytes: &mut [u8]) {
+    let n = input(bytes);
+    say_tally(run_all(&bytes[..n]));
+}
+
 fn main() {
     let mut bytes = [0u8; MOST_INPUT];
-    let n = input(&mut bytes);
-    say_tally(run_all(&bytes[..n]));
+    run_input(&mut bytes);
 }

@@ -1,0 +1,6 @@
+-- `circle_median::answers::refused_record` meets its contract. Assumes nothing.
+use borrow.Author.Rules.{rules}
+use Rattle.circle_median.proofs.answers.refused_record.Goals as goal
+
+pub returns : goal.returns
+returns c = rw (c.number.ensures, c.place.ensures)
