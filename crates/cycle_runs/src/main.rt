@@ -6,7 +6,9 @@
 #![tactic(auto)]
 
 use cycle::{DistanceAnswer, SignedAnswer, SlotAnswer};
-use runs::cases::{DECIMAL, MOST_INPUT, MOST_NUMBERS, begins, find, input, number_of, readings_of};
+use runs::cases::{
+    DECIMAL, MOST_NUMBERS, begins, find, input, input_memory, number_of, readings_of,
+};
 use runs::counts::after;
 use runs::print::{say, say_next, say_number, say_refusal, say_signed};
 
@@ -97,13 +99,8 @@ fn run_all(bytes: &[u8]) {
     }
 }
 
-// Reads the cases into lent memory and runs them.
-fn run_input(bytes: &mut [u8]) {
-    let n = input(bytes);
-    run_all(&bytes[..n]);
-}
-
 fn main() {
-    let mut bytes = [0u8; MOST_INPUT];
-    run_input(&mut bytes);
+    let mut bytes = input_memory();
+    let n = input(&mut bytes);
+    run_all(&bytes[..n]);
 }

@@ -9,7 +9,7 @@
 #![tactic(auto)]
 
 use filter::{Engine, FilterAnswer};
-use runs::cases::{DECIMAL, MOST_INPUT, find, input, nth, numbers_of, readings_of, shape_of};
+use runs::cases::{DECIMAL, find, input, input_memory, nth, numbers_of, readings_of, shape_of};
 use runs::counts::after;
 use runs::marks::mark_end_u32;
 use runs::print::{say, say_next, say_number, say_readings, say_refusal, say_shape};
@@ -133,13 +133,8 @@ fn run_all(bytes: &[u8]) {
     }
 }
 
-// Reads the cases into lent memory and runs them.
-fn run_input(bytes: &mut [u8]) {
-    let n = input(bytes);
-    run_all(&bytes[..n]);
-}
-
 fn main() {
-    let mut bytes = [0u8; MOST_INPUT];
-    run_input(&mut bytes);
+    let mut bytes = input_memory();
+    let n = input(&mut bytes);
+    run_all(&bytes[..n]);
 }

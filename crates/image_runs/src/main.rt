@@ -11,7 +11,7 @@
 #![tactic(auto)]
 
 use filter::FilterAnswer;
-use runs::cases::{MOST_INPUT, input, number_at};
+use runs::cases::{input, input_memory, number_at};
 use runs::counts::{LARGEST, after, least, minus, plus, times};
 use runs::print::{say, say_count};
 use shape::Shape;
@@ -449,7 +449,7 @@ fn say_tally(engine: &[u8], tally: Tally) {
 }
 
 fn main() {
-    let mut bytes = [0u8; MOST_INPUT];
+    let mut bytes = input_memory();
     let mut image = [0u16; 480];
     let mut output = [0u16; 512];
     let mut work = [0u32; 168000];

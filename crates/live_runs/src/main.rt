@@ -17,7 +17,7 @@ use live_checks::tally::{Tally, no_tally, say_tally};
 use live_checks::windows::say_window;
 use rows::run_row;
 use runs::cases::{
-    DECIMAL, MOST_INPUT, MOST_NUMBERS, begins, find, input, numbers_of, readings_of,
+    DECIMAL, MOST_NUMBERS, begins, find, input, input_memory, numbers_of, readings_of,
 };
 use runs::counts::after;
 use runs::print::say;
@@ -109,13 +109,8 @@ fn run_all(bytes: &[u8]) -> Tally {
     tally
 }
 
-// Reads the cases into lent memory, runs them and prints the counts.
-fn run_input(bytes: &mut [u8]) {
-    let n = input(bytes);
-    say_tally(run_all(&bytes[..n]));
-}
-
 fn main() {
-    let mut bytes = [0u8; MOST_INPUT];
-    run_input(&mut bytes);
+    let mut bytes = input_memory();
+    let n = input(&mut bytes);
+    say_tally(run_all(&bytes[..n]));
 }

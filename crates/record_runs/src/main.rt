@@ -14,7 +14,7 @@ ghost use Rattle.io.specs.Counts.{IsPrefixLen};
 
 use record::{ReadAnswer, WriteAnswer};
 use runs::cases::{
-    DECIMAL, HEXADECIMAL, MOST_INPUT, begins, bytes_of, find, input, low_u8, number_of, numbers_of,
+    DECIMAL, HEXADECIMAL, begins, bytes_of, find, input, input_memory, low_u8, number_of, numbers_of,
     readings_of, shape_of,
 };
 use runs::counts::{after, least, times};
@@ -279,13 +279,8 @@ fn run_all(bytes: &[u8]) {
     }
 }
 
-// Reads the cases into lent memory and runs them.
-fn run_input(bytes: &mut [u8]) {
-    let n = input(bytes);
-    run_all(&bytes[..n]);
-}
-
 fn main() {
-    let mut bytes = [0u8; MOST_INPUT];
-    run_input(&mut bytes);
+    let mut bytes = input_memory();
+    let n = input(&mut bytes);
+    run_all(&bytes[..n]);
 }

@@ -2,7 +2,7 @@
 //
 // In a text a number is a run of digits, and what is no digit stands between numbers and says nothing, but for the
 // word `of`: `3 of 8` is the number 8, three times. Hexadecimal digits above 9 are capital letters.
-ghost use Rattle.std.specs.Prelude.{◌≤◌, length};
+ghost use Rattle.std.specs.Prelude.{◌≡◌, ◌≤◌, length};
 ghost use Rattle.io.specs.Counts.{IsPrefixLen};
 
 use crate::counts::{LARGEST, least, minus, plus, times};
@@ -23,6 +23,13 @@ pub const HEXADECIMAL: usize = 16;
 
 // The last letter of the word `of`.
 const OF: u8 = b'f';
+
+// Memory for standard input. What it holds is no part of the contract: a caller needs its length alone.
+pub fn input_memory() -> [u8; MOST_INPUT]
+    ensures { MOST_INPUT ≡ length result }
+{
+    [0; MOST_INPUT]
+}
 
 // All of standard input, at the start of lent memory; its length.
 pub fn input(bytes: &mut [u8]) -> usize

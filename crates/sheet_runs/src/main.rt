@@ -8,7 +8,7 @@
 ghost use Rattle.std.specs.Prelude.{◌≤◌, length};
 ghost use Rattle.sheet_lines.specs.Lines.{most_text};
 
-use runs::cases::{MOST_INPUT, input, number_at};
+use runs::cases::{input, input_memory, number_at};
 use runs::counts::after;
 use runs::print::say_count;
 use sheet::MOST_TEXT;
@@ -45,7 +45,7 @@ fn print_all(
 }
 
 fn main() {
-    let mut bytes = [0u8; MOST_INPUT];
+    let mut bytes = input_memory();
     let mut readings = [60000u16; 8192];
     let mut output = [60000u16; 8192];
     let mut work = [4000000000u32; 16384];
