@@ -14,8 +14,8 @@ ghost use Rattle.io.specs.Counts.{IsPrefixLen};
 
 use record::{ReadAnswer, WriteAnswer};
 use runs::cases::{
-    DECIMAL, HEXADECIMAL, begins, bytes_of, find, input, input_memory, low_u8, number_of, numbers_of,
-    readings_of, shape_of,
+    DECIMAL, HEXADECIMAL, begins, bytes_of, find, input, input_memory, low_u8, number_of,
+    numbers_of, readings_of, shape_of,
 };
 use runs::counts::{after, least, times};
 use runs::marks::{mark_end_u8, mark_end_u16};

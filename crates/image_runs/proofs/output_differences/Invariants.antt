@@ -1,0 +1,11 @@
+-- `image_runs::output_differences` meets its contract. Assumes nothing.
+use Prim.Native.Nat.{◌≤◌, ◌-◌}
+use borrow.Author.Rules.{rules}
+use lib.ListN.{length}
+use Rattle.image_runs.proofs.output_differences.Given as goal
+
+abbrev pub invariant-loop-i : goal.invariant-loop-i
+invariant-loop-i l = l.i ≤ length l.output
+
+abbrev pub decreases-loop-i : goal.decreases-loop-i
+decreases-loop-i l = length l.output - l.i
