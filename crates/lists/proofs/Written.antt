@@ -7,7 +7,7 @@ use native.Mathlib.Omega.{arith}
 use native.Mathlib.Decide.{dec_lt}
 use native.Mathlib.Nat.{sub_self}
 use borrow.Rule.Slice.PartMut.{put_mid}
-use lib.ListN.{length, take, drop, get_or, set, take-append-drop, get_or-append, length-append, length-take, length-drop}
+use lib.ListN.{length, take, drop, get_or, take-append-drop, get_or-append, length-append, length-take, length-drop}
 use lib.Seq.{take_at, drop_at, drop-drop, length-take-le, get_or-drop, get_or-take, get_or-append-add, ext_get_or}
 use Rattle.lists.specs.Tabulate.{tabulate, written}
 use Rattle.lists.proofs.Tabulate.{length-tabulate, get_or-tabulate, tabulate-append}

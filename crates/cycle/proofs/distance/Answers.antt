@@ -1,5 +1,5 @@
 -- `cycle::distance` meets its contract. Assumes nothing.
-use Rattle.std.proofs.Common.{sym, arith, rules}
+use Rattle.std.proofs.Common.{sym, arith}
 use Rattle.cycle.specs.Calls.{distance_due, pair_rules}
 use Rattle.cycle.proofs.Accepted.{pair_clear}
 use Rattle.refusal.specs.Outcome.{Clear}

@@ -1,5 +1,5 @@
 -- `cycle::drift` meets its contract. Assumes nothing.
-use Rattle.std.proofs.Common.{sym, arith, rules}
+use Rattle.std.proofs.Common.{sym, arith}
 use Rattle.cycle.proofs.SignedLaws.{kept}
 use Rattle.cycle.proofs.Accepted.{drift_clear}
 use Rattle.cycle.specs.Calls.{row_rules, drift_due}

@@ -1,5 +1,5 @@
 -- `cycle::slot` meets its contract. Assumes nothing.
-use Rattle.std.proofs.Common.{◌≡◌, Bool, true, false, sym, ap, ◌∙◌, arith, rules, le-leb}
+use Rattle.std.proofs.Common.{◌≡◌, Bool, true, false, sym, ap, ◌∙◌, arith, le-leb}
 use borrow.Author.Tests.{lt-leb}
 use Rattle.refusal.specs.Outcome.{Clear}
 use Rattle.refusal.specs.Outcome.Outcome.{accepted}

@@ -1,5 +1,5 @@
 -- `cycle::step` meets its contract. Assumes nothing.
-use Rattle.std.proofs.Common.{sym, arith, rules}
+use Rattle.std.proofs.Common.{sym, arith}
 use Rattle.cycle.proofs.SignedLaws.{kept}
 use Rattle.cycle.proofs.Accepted.{pair_clear}
 use Rattle.cycle.specs.Calls.{pair_rules, step_due}

@@ -1,5 +1,5 @@
 -- `cycle::list::entry_in` meets its contract. Assumes nothing.
-use Rattle.std.proofs.Common.{ℕ, List, length, get_or, ap, ◌∙◌, arith, rules}
+use Rattle.std.proofs.Common.{ℕ, List, length, get_or, ap, ◌∙◌, arith}
 use Rattle.cycle.specs.List.{entry}
 use Rattle.cycle.proofs.ListLaws.{length-listed, entry_place, place_below}
 use Rattle.cycle.proofs.list.entry_in.Goals as goal

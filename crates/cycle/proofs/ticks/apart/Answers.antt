@@ -1,5 +1,4 @@
 -- `cycle::ticks::apart` meets its contract. Assumes nothing.
-use Rattle.std.proofs.Common.{rules}
 use Rattle.cycle.proofs.ListLaws.{listed_no}
 use Rattle.cycle.proofs.ticks.apart.Goals as goal
 

@@ -1,5 +1,5 @@
 -- `cycle::ticks::apart_by` meets its contract: by the list that is lent, or by the formula. Assumes nothing.
-use Rattle.std.proofs.Common.{◌≡◌, rules}
+use Rattle.std.proofs.Common.{◌≡◌}
 use Rattle.cycle.specs.List.{listed_cycle}
 use Rattle.cycle.proofs.ListLaws.{listed_yes, by_list}
 use Rattle.cycle.proofs.ticks.apart_by.Goals as goal

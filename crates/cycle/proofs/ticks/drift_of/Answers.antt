@@ -1,7 +1,7 @@
-use Rattle.std.proofs.Common.{◌≡◌, ◌-◌, ◌≤◌, true, length, get_or, sym, ◌∙◌, arith, rules}
+use Rattle.std.proofs.Common.{◌≡◌, ◌≤◌, true, get_or, sym, ◌∙◌, arith, rules}
 use Rattle.cycle.specs.Silence.{is_reading}
 use Rattle.cycle.proofs.SignedLaws.{kept}
-use Rattle.cycle.proofs.DriftLaws.{off_small, way_small, travelled_none, travelled_more, travelled_all, Travelled}
+use Rattle.cycle.proofs.DriftLaws.{off_small, way_small, travelled_none, travelled_more, travelled_all}
 use Rattle.cycle.proofs.Accepted.{reading-good}
 use Rattle.cycle.proofs.ticks.drift_of.Goals as goal
 use Rattle.cycle.proofs.ticks.drift_of.Goals.{After-way_on-e, In-loop-i}

@@ -1,5 +1,5 @@
 -- `cycle::ticks::signed` meets its contract. Assumes nothing.
-use Rattle.std.proofs.Common.{arith, rules}
+use Rattle.std.proofs.Common.{arith}
 use Rattle.cycle.proofs.SignedLaws.{sub_fits, sub_is}
 use Rattle.cycle.proofs.ticks.signed.Goals as goal
 

@@ -1,5 +1,4 @@
 -- `cycle::ticks::turn_back` meets its contract. Assumes nothing.
-use Rattle.std.proofs.Common.{rules}
 use Rattle.cycle.proofs.StepLaws.{forward_yes, forward_no}
 use Rattle.cycle.proofs.ticks.turn_back.Goals as goal
 

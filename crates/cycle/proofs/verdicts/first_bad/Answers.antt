@@ -1,5 +1,5 @@
 -- `cycle::verdicts::first_bad` meets its contract: if the highest reading is good, all are. Assumes nothing.
-use Rattle.std.proofs.Common.{◌≡◌, ℕ, ◌<◌, true, List, length, get_or, sym, refl, ◌∙◌, arith, rules}
+use Rattle.std.proofs.Common.{◌≡◌, ℕ, ◌<◌, true, List, length, get_or, sym, refl, ◌∙◌, arith}
 use mathlib.Core.Bool.{false≢true}
 use native.Mathlib.Decide.{dec_lt}
 use Rattle.lists.specs.First.{first_bad}

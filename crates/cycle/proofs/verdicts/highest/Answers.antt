@@ -1,4 +1,4 @@
-use Rattle.std.proofs.Common.{◌≡◌, ℕ, ◌+◌, ◌-◌, ◌%◌, ◌^◌, ◌<◌, ◌≤◌, List, length, get_or, arith, rules}
+use Rattle.std.proofs.Common.{◌≡◌, ℕ, ◌+◌, ◌%◌, ◌^◌, ◌≤◌, List, get_or, arith}
 use native.Mathlib.Decide.{ℕ_discrete}
 use Rattle.cycle.proofs.verdicts.highest.Invariants.{Under}
 use Rattle.cycle.proofs.verdicts.highest.Goals as goal

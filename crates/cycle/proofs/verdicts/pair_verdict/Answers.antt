@@ -1,5 +1,5 @@
 -- `cycle::verdicts::pair_verdict` meets its contract. Assumes nothing.
-use Rattle.std.proofs.Common.{[], ◌∷◌, rules}
+use Rattle.std.proofs.Common.{[], ◌∷◌}
 use Rattle.refusal.specs.Limits.{longest_cycle}
 use Rattle.refusal.proofs.Outcome.{first_of_due}
 use Rattle.cycle.specs.Calls.{cycle_rules, tick_rule}

@@ -1,5 +1,5 @@
 -- `cycle::verdicts::reading_verdict` meets its contract. Assumes nothing.
-use Rattle.std.proofs.Common.{◌<◌, ◌≤◌, length, arith, rules}
+use Rattle.std.proofs.Common.{◌<◌, ◌≤◌, length, arith}
 use Rattle.cycle.specs.Silence.{is_reading}
 use Rattle.lists.specs.First.{first_bad}
 use Rattle.refusal.proofs.Outcome.{tests}

@@ -1,5 +1,4 @@
-use Rattle.std.proofs.Common.{◌≡◌, ◌+◌, ◌-◌, ◌≤◌, length, drop, arith, rules}
-use Rattle.lists.specs.First.{first_bad}
+use Rattle.std.proofs.Common.{arith}
 use Rattle.lists.proofs.First.{first_here, first_later, first-none}
 use Rattle.cycle.specs.Silence.{is_reading}
 use Rattle.cycle.proofs.SilenceLaws.{next-reading, next-none}

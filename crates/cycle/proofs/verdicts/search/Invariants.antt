@@ -1,9 +1,7 @@
 -- `cycle::verdicts::search` meets its contract. Assumes nothing.
-use Rattle.std.proofs.Common.{◌≡◌, ◌+◌, ◌-◌, ◌≤◌, length, drop, arith, rules}
+use Rattle.std.proofs.Common.{◌≡◌, ◌+◌, ◌-◌, ◌≤◌, length, drop}
 use Rattle.lists.specs.First.{first_bad}
-use Rattle.lists.proofs.First.{first_here, first_later, first-none}
 use Rattle.cycle.specs.Silence.{is_reading}
-use Rattle.cycle.proofs.SilenceLaws.{next-reading, next-none}
 use Rattle.cycle.proofs.verdicts.search.Given as goal
 
 abbrev pub invariant-loop-i : goal.invariant-loop-i

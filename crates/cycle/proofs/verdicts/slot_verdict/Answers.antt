@@ -1,5 +1,5 @@
 -- `cycle::verdicts::slot_verdict` meets its contract. Assumes nothing.
-use Rattle.std.proofs.Common.{[], ◌∷◌, rules}
+use Rattle.std.proofs.Common.{[], ◌∷◌}
 use Rattle.refusal.proofs.Outcome.{first_of_due}
 use Rattle.cycle.specs.Calls.{pair_rules, tick_rule}
 use Rattle.cycle.proofs.verdicts.slot_verdict.Goals as goal
