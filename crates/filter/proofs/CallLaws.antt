@@ -1,5 +1,5 @@
 -- Laws of a filter call: what acceptance says, and the work memory that it leaves. Assumes nothing.
-use Prim.Native.Nat.{ℕ, ◌+◌, ◌≤◌, ◌<◌}
+use Prim.Native.Nat.{ℕ, ◌≤◌, ◌<◌}
 use mathlib.Core.Path.{◌≡◌, ap, sym, ◌∙◌}
 use mathlib.Core.List.{List, ◌++◌}
 use native.Mathlib.Omega.{arith}
@@ -21,7 +21,6 @@ use Rattle.shape.specs.declared.Shape.{Shape}
 use Rattle.memory.specs.Memory.{Changed}
 use Rattle.memory.specs.Parts.{zeros}
 use Rattle.window.specs.Ready.{Ready}
-use Rattle.refusal.specs.declared.Verdict.TheVariants as verdicts
 use Rattle.filter.specs.declared.Engine.{Engine}
 use Rattle.filter.specs.declared.Engine.TheVariants.{Level, Reading}
 use Rattle.filter.specs.Calls.{limit, need, memory_rules, image_rules, room_due, filter_due}

@@ -1,6 +1,6 @@
 -- Document 01, "Bench examples": P1 to P12, with the sums that the table names, P12 as document 02, T-04, alters it; and T-01: document
 -- 000's example 2 in 16 ticks, with a silent centre.
-use Rattle.std.specs.Prelude.{ℕ, ◌/◌, ◌≡◌, List, [], ◌∷◌, ℤ, pos, negsuc, length, get_or}
+use Rattle.std.specs.Prelude.{ℕ, ◌/◌, ◌≡◌, List, [], ◌∷◌, ℤ, negsuc, length, get_or}
 use Rattle.lists.specs.Members.{Each}
 use Rattle.cycle.specs.Silence.{silent, heard}
 use Rattle.cycle.specs.Step.{step}

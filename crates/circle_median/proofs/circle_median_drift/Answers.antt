@@ -1,6 +1,5 @@
 -- `circle_median::circle_median_drift` meets its contract. Assumes nothing.
 use mathlib.Core.Path.{ap, ◌∙◌}
-use borrow.Author.Rules.{rules}
 use Rattle.cycle.proofs.Sizes.{drift-told}
 use Rattle.circle_median.specs.Answers.{value_of}
 use Rattle.circle_median.proofs.Values.{narrow}

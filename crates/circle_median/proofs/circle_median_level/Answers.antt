@@ -1,5 +1,4 @@
 -- `circle_median::circle_median_level` meets its contract. Assumes nothing.
-use borrow.Author.Rules.{rules}
 use Rattle.circle_median.proofs.Told.{exported}
 use Rattle.circle_median.proofs.circle_median_level.Goals as goal
 

@@ -1,6 +1,5 @@
 -- `circle_median::circle_median_read` meets its contract. Assumes nothing.
 use mathlib.Core.Path.{ap, ◌∙◌}
-use borrow.Author.Rules.{rules}
 use Rattle.circle_median.specs.Answers.{record_of}
 use Rattle.circle_median.proofs.circle_median_read.Goals as goal
 

@@ -1,7 +1,6 @@
 -- `circle_median::circle_median_slot` meets its contract. Assumes nothing.
 use mathlib.Core.Bool.{Bool}
 use mathlib.Core.Path.{ap, ◌∙◌}
-use borrow.Author.Rules.{rules}
 use Rattle.refusal.specs.Outcome.{Outcome}
 use Rattle.circle_median.specs.Answers.{value_of, flag}
 use Rattle.circle_median.proofs.circle_median_slot.Goals as goal

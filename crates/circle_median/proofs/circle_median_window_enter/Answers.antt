@@ -1,5 +1,4 @@
 -- `circle_median::circle_median_window_enter` meets its contract. Assumes nothing.
-use borrow.Author.Rules.{rules}
 use Rattle.circle_median.proofs.Told.{exported_push}
 use Rattle.circle_median.proofs.circle_median_window_enter.Goals as goal
 

@@ -1,7 +1,6 @@
 -- `cycle_runs::run_all` meets its contract. Assumes nothing.
 use Prim.Native.Nat.{◌≤◌, ◌-◌}
 use lib.ListN.{length}
-use borrow.Author.Rules.{rules}
 use Rattle.cycle_runs.proofs.run_all.Given as goal
 
 abbrev pub invariant-loop-at : goal.invariant-loop-at

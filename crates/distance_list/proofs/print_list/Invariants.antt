@@ -1,6 +1,5 @@
 -- `distance_list::print_list` meets its contract: it ends. Assumes nothing.
 use Prim.Native.Nat.{◌-◌, ◌≤◌}
-use borrow.Author.Rules.{rules}
 use Rattle.distance_list.proofs.print_list.Given as goal
 
 abbrev pub invariant-loop-k : goal.invariant-loop-k

@@ -1,7 +1,6 @@
 -- `filter::run` meets its contract: a refusal returns at once; else the engine's rows, and the needed work memory zeroed. Assumes nothing.
 use mathlib.Core.Path.{◌≡◌, refl, sym}
 use native.Mathlib.Omega.{arith}
-use borrow.Author.Rules.{rules}
 use lib.ListN.{length}
 use Rattle.refusal.specs.Outcome.Outcome.{accepted}
 use Rattle.filter.specs.Calls.{filter_due, need}

@@ -1,9 +1,7 @@
 -- `image_runs::fill_output` meets its contract. Assumes nothing.
 use Prim.Native.Nat.{◌≤◌, ◌-◌}
 use mathlib.Core.Path.{◌≡◌}
-use native.Mathlib.Omega.{arith}
-use borrow.Author.Rules.{rules}
-use lib.ListN.{length, length-set}
+use lib.ListN.{length}
 use Rattle.image_runs.proofs.fill_output.Given as goal
 
 abbrev pub invariant-loop-i : goal.invariant-loop-i

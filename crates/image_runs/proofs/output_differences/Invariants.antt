@@ -1,6 +1,5 @@
 -- `image_runs::output_differences` meets its contract. Assumes nothing.
 use Prim.Native.Nat.{◌≤◌, ◌-◌}
-use borrow.Author.Rules.{rules}
 use lib.ListN.{length}
 use Rattle.image_runs.proofs.output_differences.Given as goal
 

@@ -1,7 +1,6 @@
 -- `image_runs::run_all` meets its contract. Assumes nothing.
 use Prim.Native.Nat.{◌≤◌, ◌-◌}
 use mathlib.Core.Path.{◌≡◌}
-use borrow.Author.Rules.{rules}
 use lib.ListN.{length}
 use Rattle.image_runs.proofs.run_all.Given as goal
 

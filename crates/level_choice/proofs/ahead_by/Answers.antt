@@ -2,7 +2,6 @@
 use Prim.Native.Nat.{◌+◌, ◌-◌}
 use mathlib.Core.Path.{sym, refl}
 use native.Mathlib.Omega.{arith}
-use borrow.Author.Rules.{rules}
 use Rattle.cycle.proofs.Ways.{mod_low, mod_high}
 use Rattle.level_choice.proofs.ahead_by.Goals as goal
 

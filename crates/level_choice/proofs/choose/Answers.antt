@@ -1,7 +1,6 @@
 -- `level_choice::choose` meets its contract. Assumes nothing.
 use mathlib.Core.Path.{◌∙◌, sym}
 use native.Mathlib.Omega.{arith}
-use borrow.Author.Rules.{rules}
 use Rattle.memory.specs.Parts.{copied}
 use Rattle.level_choice.proofs.Outward.{walked_all, found_only}
 use Rattle.level_choice.proofs.Count.{only_place}

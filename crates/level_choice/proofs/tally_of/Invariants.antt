@@ -1,12 +1,8 @@
 -- `level_choice::tally_of` meets its contract. Assumes nothing.
-use Prim.Native.Nat.{◌+◌, ◌*◌, ◌-◌, ◌≤◌}
-use mathlib.Core.Path.{◌≡◌, refl, sym}
-use native.Mathlib.Omega.{arith}
-use borrow.Author.Rules.{rules}
-use Rattle.refusal.specs.Limits.{longest_cycle}
+use Prim.Native.Nat.{◌-◌, ◌≤◌}
+use mathlib.Core.Path.{◌≡◌}
 use Rattle.memory.specs.Parts.{copied}
 use Rattle.level_choice.specs.Count.{count_of, places_of}
-use Rattle.level_choice.proofs.Count.{sum-none, sum_turn, sum_most}
 use Rattle.level_choice.proofs.tally_of.Given as goal
 
 abbrev pub invariant-loop-q : goal.invariant-loop-q

@@ -1,11 +1,9 @@
-use Prim.Native.Nat.{◌-◌, ◌≤◌, ◌<◌}
+use Prim.Native.Nat.{◌<◌}
 use mathlib.Core.Path.{◌≡◌, sym, ◌∙◌, ap}
 use native.Mathlib.Omega.{arith}
 use native.Mathlib.Nat.{mod-lt}
-use borrow.Author.Rules.{rules}
 use Rattle.level_choice.proofs.Outward.{front, walked_front, walked_rear, walked_none, passed_more}
 use Rattle.memory.specs.Parts.{copied}
-use Rattle.level_choice.specs.Walk.{Passed}
 use Rattle.level_choice.proofs.walk.Goals as goal
 use Rattle.level_choice.proofs.walk.Goals.{After-ahead_by-front, After-ahead_by-rear}
 

@@ -1,10 +1,5 @@
 -- `level_choice::walk` meets its contract: before step e no tick nearer than e has the least sum. Assumes nothing.
-use Prim.Native.Nat.{◌-◌, ◌≤◌, ◌<◌}
-use mathlib.Core.Path.{◌≡◌, sym, ◌∙◌, ap}
-use native.Mathlib.Omega.{arith}
-use native.Mathlib.Nat.{mod-lt}
-use borrow.Author.Rules.{rules}
-use Rattle.level_choice.proofs.Outward.{front, walked_front, walked_rear, walked_none, passed_more}
+use Prim.Native.Nat.{◌-◌, ◌≤◌}
 use Rattle.memory.specs.Parts.{copied}
 use Rattle.level_choice.specs.Walk.{Passed}
 use Rattle.level_choice.proofs.walk.Given as goal

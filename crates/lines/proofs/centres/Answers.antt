@@ -1,11 +1,10 @@
-use Prim.Native.Nat.{◌+◌, ◌-◌, ◌*◌, ◌≤◌}
+use Prim.Native.Nat.{◌+◌, ◌*◌, ◌≤◌}
 use mathlib.Core.Path.{◌≡◌, sym, ◌∙◌}
 use native.Mathlib.Omega.{arith}
-use borrow.Author.Rules.{rules}
 use lib.ListN.{length}
 use Rattle.refusal.specs.Limits.{longest_cycle, most_rows, most_columns}
 use Rattle.shape.proofs.Accepted.{Accepted, shape_clear, row_room}
-use Rattle.lines.specs.Lines.{IsLine, Standing}
+use Rattle.lines.specs.Lines.{Standing}
 use Rattle.lines.proofs.Standing.{standing_start, goes_on, standing_all}
 use Rattle.lines.proofs.centres.Goals as goal
 use Rattle.lines.proofs.centres.Goals.{After-next_row-k-in-loop-k, Start}

@@ -1,11 +1,7 @@
 -- `lines::copy_line` meets its contract. Assumes nothing.
 use Prim.Native.Nat.{◌-◌, ◌≤◌}
-use mathlib.Core.Path.{refl}
-use native.Mathlib.Omega.{arith}
-use borrow.Author.Rules.{rules}
 use Rattle.memory.specs.Memory.{Changed}
 use Rattle.memory.specs.Parts.{copied}
-use Rattle.memory.proofs.Memory.{changed_start, changed_turn, changed_done}
 use Rattle.lines.proofs.copy_line.Given as goal
 
 abbrev pub invariant-loop-q : goal.invariant-loop-q

@@ -1,9 +1,8 @@
-use Prim.Native.Nat.{◌+◌, ◌-◌, ◌≤◌}
+use Prim.Native.Nat.{◌+◌, ◌-◌}
 use mathlib.Core.Path.{◌≡◌, ◌∙◌}
 use native.Mathlib.Omega.{arith}
-use borrow.Author.Rules.{rules}
 use lib.ListN.{length, get_or, set, length-set}
-use Rattle.lines.proofs.Edges.{Edging, edging_none, edging_more, edging_all}
+use Rattle.lines.proofs.Edges.{edging_none, edging_more, edging_all}
 use Rattle.lines.proofs.mirror_edges.Goals as goal
 use Rattle.lines.proofs.mirror_edges.Goals.{After-slice_known-in-loop-k-1}
 

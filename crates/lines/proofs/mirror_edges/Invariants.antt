@@ -1,10 +1,6 @@
 -- `lines::mirror_edges` meets its contract. Assumes nothing.
-use Prim.Native.Nat.{◌+◌, ◌-◌, ◌≤◌}
-use mathlib.Core.Path.{◌≡◌, ◌∙◌}
-use native.Mathlib.Omega.{arith}
-use borrow.Author.Rules.{rules}
-use lib.ListN.{length, get_or, set, length-set}
-use Rattle.lines.proofs.Edges.{Edging, edging_none, edging_more, edging_all}
+use Prim.Native.Nat.{◌-◌, ◌≤◌}
+use Rattle.lines.proofs.Edges.{Edging}
 use Rattle.lines.proofs.mirror_edges.Given as goal
 
 abbrev pub invariant-loop-k : goal.invariant-loop-k

@@ -1,7 +1,6 @@
 -- `lines::next_row` meets its contract. Assumes nothing.
 use mathlib.Core.Path.{refl}
 use mathlib.Core.Logic.{inl, inr}
-use borrow.Author.Rules.{rules}
 use Rattle.lines.proofs.next_row.Goals as goal
 
 pub returns-then-all_heard : goal.returns-then-all_heard

@@ -1,10 +1,7 @@
-use Prim.Native.Nat.{◌-◌, ◌≤◌}
 use mathlib.Core.Path.{◌∙◌}
 use native.Mathlib.Omega.{arith}
 use borrow.Author.Rules.{rules}
-use Rattle.memory.specs.Memory.{Changed}
 use Rattle.memory.proofs.Memory.{changed_start, changed_turn_first, changed_done}
-use Rattle.lines.specs.Lines.{stood_in}
 use Rattle.lines.proofs.stand_in.Goals as goal
 
 pub loop-j-init : goal.loop-j-init

@@ -1,10 +1,9 @@
-use Prim.Native.Nat.{◌+◌, ◌-◌, ◌≤◌}
+use Prim.Native.Nat.{◌+◌, ◌≤◌}
 use mathlib.Core.Path.{◌≡◌, sym, ◌∙◌}
 use native.Mathlib.Omega.{arith}
-use borrow.Author.Rules.{rules}
 use Rattle.refusal.specs.Limits.{longest_cycle}
 use Rattle.shape.proofs.Accepted.{Accepted, shape_clear}
-use Rattle.lines.specs.Lines.{Standing, padded_length}
+use Rattle.lines.specs.Lines.{padded_length}
 use Rattle.lines.proofs.Standing.{standing_more, standing_row}
 use Rattle.lines.proofs.stand_in_row.Goals as goal
 use Rattle.lines.proofs.stand_in_row.Goals.{Start}

@@ -1,12 +1,6 @@
 -- `lines::stand_in_row` meets its contract. Assumes nothing.
-use Prim.Native.Nat.{◌+◌, ◌-◌, ◌≤◌}
-use mathlib.Core.Path.{◌≡◌, sym, ◌∙◌}
-use native.Mathlib.Omega.{arith}
-use borrow.Author.Rules.{rules}
-use Rattle.refusal.specs.Limits.{longest_cycle}
-use Rattle.shape.proofs.Accepted.{Accepted, shape_clear}
-use Rattle.lines.specs.Lines.{Standing, padded_length}
-use Rattle.lines.proofs.Standing.{standing_more, standing_row}
+use Prim.Native.Nat.{◌-◌, ◌≤◌}
+use Rattle.lines.specs.Lines.{Standing}
 use Rattle.lines.proofs.stand_in_row.Given as goal
 
 abbrev pub invariant-loop-l : goal.invariant-loop-l

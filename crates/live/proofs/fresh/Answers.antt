@@ -1,6 +1,5 @@
 -- `live::fresh` meets its contract. Assumes nothing.
 use mathlib.Core.Path.{◌≡◌}
-use borrow.Author.Rules.{rules}
 use Rattle.live.specs.Calls.{no_window}
 use Rattle.live.proofs.Calls.{fresh_refused, fresh_passed}
 use Rattle.live.proofs.fresh.Goals as goal

@@ -1,5 +1,4 @@
 -- `live::fresh_in` meets its contract. Assumes nothing.
-use borrow.Author.Rules.{rules}
 use Rattle.live.proofs.Calls.{empty_window, fresh_refused, fresh_passed}
 use Rattle.live.proofs.fresh_in.Goals as goal
 

@@ -1,6 +1,5 @@
 -- `live::push_in` meets its contract. Assumes nothing.
 use native.Mathlib.Omega.{arith}
-use borrow.Author.Rules.{rules}
 use Rattle.refusal.specs.Outcome.{Clear}
 use Rattle.refusal.proofs.Outcome.{passed_clear}
 use Rattle.live.specs.Calls.{push_rules}

@@ -1,5 +1,4 @@
 -- `live::reset` meets its contract. Assumes nothing.
-use borrow.Author.Rules.{rules}
 use Rattle.live.proofs.Calls.{fresh_refused, fresh_passed}
 use Rattle.live.proofs.reset.Goals as goal
 

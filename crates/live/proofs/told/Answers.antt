@@ -1,6 +1,5 @@
 -- `live::told` meets its contract. Assumes nothing.
 use mathlib.Core.Path.{◌∙◌}
-use borrow.Author.Rules.{rules}
 use borrow.Author.Tests.{lt-ltb, le-ltb}
 use Rattle.live.proofs.told.Goals as goal
 

@@ -1,6 +1,5 @@
 -- `live_runs::run_all` meets its contract. Assumes nothing.
 use Prim.Native.Nat.{◌≤◌, ◌-◌}
-use borrow.Author.Rules.{rules}
 use lib.ListN.{length}
 use Rattle.live_runs.proofs.run_all.Given as goal
 

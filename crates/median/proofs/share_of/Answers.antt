@@ -1,6 +1,5 @@
 -- `median::share_of` meets its contract. Assumes nothing.
 use mathlib.Core.Path.{◌∙◌}
-use borrow.Author.Rules.{rules}
 use Rattle.median.proofs.share_of.Goals as goal
 
 pub returns-then-plain : goal.returns-then-plain

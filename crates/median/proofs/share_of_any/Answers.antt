@@ -1,5 +1,4 @@
 -- `median::share_of_any` meets its contract. Assumes nothing.
-use borrow.Author.Rules.{rules}
 use Rattle.median.proofs.Sum.{share_measured}
 use Rattle.median.proofs.share_of_any.Goals as goal
 

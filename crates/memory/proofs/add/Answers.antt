@@ -1,8 +1,6 @@
-use Rattle.std.proofs.Common.{◌+◌, ◌-◌, ◌≤◌, get_or, arith, rules}
+use Rattle.std.proofs.Common.{◌+◌, get_or, arith, rules}
 use Rattle.lists.proofs.Difference.{adjusted-added}
 use Rattle.memory.proofs.Memory.{changed_start, changed_adjusted, changed_done}
-use Rattle.memory.specs.Parts.{added}
-use Rattle.memory.specs.Memory.{Changed}
 use Rattle.memory.proofs.add.Goals as goal
 
 pub loop-q-init : goal.loop-q-init

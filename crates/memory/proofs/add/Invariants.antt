@@ -1,7 +1,5 @@
 -- `memory::add` meets its contract. Assumes nothing.
-use Rattle.std.proofs.Common.{◌+◌, ◌-◌, ◌≤◌, get_or, arith, rules}
-use Rattle.lists.proofs.Difference.{adjusted-added}
-use Rattle.memory.proofs.Memory.{changed_start, changed_adjusted, changed_done}
+use Rattle.std.proofs.Common.{◌-◌, ◌≤◌}
 use Rattle.memory.specs.Parts.{added}
 use Rattle.memory.specs.Memory.{Changed}
 use Rattle.memory.proofs.add.Given as goal

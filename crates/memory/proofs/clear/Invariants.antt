@@ -1,6 +1,5 @@
 -- `memory::clear` meets its contract. Assumes nothing.
-use Rattle.std.proofs.Common.{◌-◌, ◌≤◌, refl, arith, rules}
-use Rattle.memory.proofs.Memory.{changed_start, changed_turn, changed_done}
+use Rattle.std.proofs.Common.{◌-◌, ◌≤◌}
 use Rattle.memory.specs.Parts.{zeros}
 use Rattle.memory.specs.Memory.{Changed}
 use Rattle.memory.proofs.clear.Given as goal

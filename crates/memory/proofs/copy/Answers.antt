@@ -1,7 +1,5 @@
-use Rattle.std.proofs.Common.{◌+◌, ◌-◌, ◌≤◌, arith, rules}
+use Rattle.std.proofs.Common.{◌+◌, arith, rules}
 use Rattle.memory.proofs.Memory.{changed_start, changed_turn, changed_done}
-use Rattle.memory.specs.Parts.{copied}
-use Rattle.memory.specs.Memory.{Changed}
 use Rattle.memory.proofs.copy.Goals as goal
 
 pub loop-q-init : goal.loop-q-init

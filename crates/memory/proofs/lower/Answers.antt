@@ -1,5 +1,5 @@
 -- `memory::lower` meets its contract. Assumes nothing.
-use Rattle.std.proofs.Common.{sym, ◌∙◌, arith, rules, ltb-false, ltb-true}
+use Rattle.std.proofs.Common.{sym, ◌∙◌, arith, ltb-false, ltb-true}
 use Rattle.memory.proofs.Signed.{signed_less}
 use Rattle.memory.proofs.lower.Goals as goal
 

@@ -1,7 +1,6 @@
-use Rattle.std.proofs.Common.{◌≡◌, ◌-◌, ◌≤◌, sym, refl, arith, rules}
+use Rattle.std.proofs.Common.{◌≡◌, sym, refl, arith, rules}
 use Rattle.memory.proofs.Lowest.{lowest-none, lowest_turn, lowest-signed}
 use Rattle.memory.specs.Parts.{copied}
-use Rattle.memory.specs.Memory.{lowest}
 use Rattle.memory.proofs.lowest_of.Goals as goal
 
 pub loop-q-init : goal.loop-q-init

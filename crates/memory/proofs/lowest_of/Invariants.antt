@@ -1,6 +1,5 @@
 -- `memory::lowest_of` meets its contract. Assumes nothing.
-use Rattle.std.proofs.Common.{◌≡◌, ◌-◌, ◌≤◌, sym, refl, arith, rules}
-use Rattle.memory.proofs.Lowest.{lowest-none, lowest_turn, lowest-signed}
+use Rattle.std.proofs.Common.{◌≡◌, ◌-◌, ◌≤◌}
 use Rattle.memory.specs.Parts.{copied}
 use Rattle.memory.specs.Memory.{lowest}
 use Rattle.memory.proofs.lowest_of.Given as goal

@@ -1,6 +1,4 @@
-use Rattle.std.proofs.Common.{◌-◌, ◌≤◌, refl, arith, rules}
-use Rattle.memory.specs.Memory.{Changed}
-use Rattle.memory.specs.Parts.{copied}
+use Rattle.std.proofs.Common.{refl, arith, rules}
 use Rattle.memory.proofs.Memory.{changed_start, changed_turn, changed_done}
 use Rattle.memory.proofs.put.Goals as goal
 

@@ -1,8 +1,7 @@
 -- `memory::put` meets its contract. Assumes nothing.
-use Rattle.std.proofs.Common.{◌-◌, ◌≤◌, refl, arith, rules}
+use Rattle.std.proofs.Common.{◌-◌, ◌≤◌}
 use Rattle.memory.specs.Memory.{Changed}
 use Rattle.memory.specs.Parts.{copied}
-use Rattle.memory.proofs.Memory.{changed_start, changed_turn, changed_done}
 use Rattle.memory.proofs.put.Given as goal
 
 abbrev pub invariant-loop-q : goal.invariant-loop-q

@@ -1,7 +1,5 @@
-use Rattle.std.proofs.Common.{◌+◌, ◌-◌, ◌≤◌, get_or, arith, rules}
+use Rattle.std.proofs.Common.{◌+◌, get_or, arith, rules}
 use Rattle.memory.proofs.Memory.{changed_start, changed_adjusted, changed_done}
-use Rattle.memory.specs.Parts.{swapped}
-use Rattle.memory.specs.Memory.{Changed}
 use Rattle.lists.proofs.Difference.{adjusted_by_code}
 use Rattle.memory.proofs.swap.Goals as goal
 

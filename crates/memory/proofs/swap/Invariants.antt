@@ -1,9 +1,7 @@
 -- `memory::swap` meets its contract. Assumes nothing.
-use Rattle.std.proofs.Common.{◌+◌, ◌-◌, ◌≤◌, get_or, arith, rules}
-use Rattle.memory.proofs.Memory.{changed_start, changed_adjusted, changed_done}
+use Rattle.std.proofs.Common.{◌-◌, ◌≤◌}
 use Rattle.memory.specs.Parts.{swapped}
 use Rattle.memory.specs.Memory.{Changed}
-use Rattle.lists.proofs.Difference.{adjusted_by_code}
 use Rattle.memory.proofs.swap.Given as goal
 
 abbrev pub invariant-loop-q : goal.invariant-loop-q

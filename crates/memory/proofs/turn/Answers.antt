@@ -1,8 +1,7 @@
-use Rattle.std.proofs.Common.{◌≡◌, ℕ, ◌+◌, ◌-◌, ◌%◌, ◌^◌, ◌<◌, ◌≤◌, get_or, set, sym, ap, ◌∙◌, arith, length-set, get_or-set_other, rules}
+use Rattle.std.proofs.Common.{◌≡◌, ℕ, ◌+◌, ◌%◌, ◌^◌, ◌<◌, get_or, set, sym, ap, ◌∙◌, arith, length-set, get_or-set_other, rules}
 use Rattle.memory.proofs.Lowest.{lowest-none, lowest_turn, lowest-signed}
 use Rattle.memory.proofs.Memory.{both_start, both_turn}
 use Rattle.memory.specs.Parts.{turned, summed}
-use Rattle.memory.specs.Memory.{ChangedBoth, lowest}
 use Rattle.lists.proofs.Difference.{adjusted_by_code}
 use Rattle.lists.specs.Difference.{adjusted}
 use Rattle.memory.proofs.turn.Goals as goal

@@ -1,12 +1,8 @@
 -- `memory::turn` meets its contract: at each tick the new difference and the new sum are those of the contract, and the lowest so far
 -- is that of the sums before it. Assumes nothing.
-use Rattle.std.proofs.Common.{◌≡◌, ℕ, ◌+◌, ◌-◌, ◌%◌, ◌^◌, ◌<◌, ◌≤◌, get_or, set, sym, ap, ◌∙◌, arith, length-set, get_or-set_other, rules}
-use Rattle.memory.proofs.Lowest.{lowest-none, lowest_turn, lowest-signed}
-use Rattle.memory.proofs.Memory.{both_start, both_turn}
+use Rattle.std.proofs.Common.{◌≡◌, ◌-◌, ◌≤◌}
 use Rattle.memory.specs.Parts.{turned, summed}
 use Rattle.memory.specs.Memory.{ChangedBoth, lowest}
-use Rattle.lists.proofs.Difference.{adjusted_by_code}
-use Rattle.lists.specs.Difference.{adjusted}
 use Rattle.memory.proofs.turn.Given as goal
 
 abbrev pub invariant-loop-q : goal.invariant-loop-q

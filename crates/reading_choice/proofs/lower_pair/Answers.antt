@@ -1,5 +1,4 @@
 -- `reading_choice::lower_pair` meets its contract. Assumes nothing.
-use Rattle.std.proofs.Common.{rules}
 use Rattle.memory.proofs.Signed.{signed_less}
 use Rattle.reading_choice.proofs.lower_pair.Goals as goal
 

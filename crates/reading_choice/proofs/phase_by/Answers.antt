@@ -1,5 +1,5 @@
 -- `reading_choice::phase_by` meets its contract. Assumes nothing.
-use Rattle.std.proofs.Common.{◌≡◌, ℕ, ◌<◌, true, cond, ◌∙◌, arith, rules}
+use Rattle.std.proofs.Common.{◌≡◌, ℕ, ◌<◌, true, cond, ◌∙◌, arith}
 use Rattle.cycle.specs.Silence.{silent, is_heard, is_reading}
 use Rattle.cycle.proofs.SilenceLaws.{unheard, heard_case, heard-tick}
 use Rattle.reading_choice.specs.Ranks.{tick_of, phase_by}

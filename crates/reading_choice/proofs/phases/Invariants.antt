@@ -1,7 +1,6 @@
 -- `reading_choice::phases` meets its contract. Assumes nothing.
-use Rattle.std.proofs.Common.{◌-◌, ◌≤◌, arith, rules}
+use Rattle.std.proofs.Common.{◌-◌, ◌≤◌}
 use Rattle.memory.specs.Memory.{Changed}
-use Rattle.memory.proofs.Memory.{changed_start, changed_turn_first, changed_done}
 use Rattle.reading_choice.specs.Ranks.{phases_by}
 use Rattle.reading_choice.proofs.phases.Given as goal
 

@@ -1,5 +1,5 @@
 -- `reading_choice::rank_of` meets its contract. Assumes nothing.
-use Rattle.std.proofs.Common.{eqb, arith, rules}
+use Rattle.std.proofs.Common.{eqb, arith}
 use Rattle.reading_choice.proofs.RankLaws.{one_more, rank_by_code}
 use Rattle.reading_choice.proofs.rank_of.Goals as goal
 

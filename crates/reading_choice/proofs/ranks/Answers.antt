@@ -1,7 +1,5 @@
-use Rattle.std.proofs.Common.{◌-◌, ◌≤◌, arith, rules}
-use Rattle.memory.specs.Memory.{Changed}
+use Rattle.std.proofs.Common.{arith, rules}
 use Rattle.memory.proofs.Memory.{changed_start, changed_turn_first, changed_done}
-use Rattle.reading_choice.specs.Ranks.{ranked}
 use Rattle.reading_choice.proofs.ranks.Goals as goal
 
 pub loop-j-init : goal.loop-j-init

@@ -1,7 +1,6 @@
 -- `reading_choice::reset` meets its contract. Assumes nothing.
-use Rattle.std.proofs.Common.{◌-◌, ◌≤◌, refl, arith, rules}
+use Rattle.std.proofs.Common.{◌-◌, ◌≤◌}
 use Rattle.memory.specs.Memory.{Changed}
-use Rattle.memory.proofs.Memory.{changed_start, changed_turn_first, changed_done}
 use Rattle.reading_choice.specs.Ranks.{unweighed_sum, unweighed_rank}
 use Rattle.reading_choice.proofs.reset.Given as goal
 

@@ -1,5 +1,5 @@
 -- `reading_choice::tick_of` meets its contract. Assumes nothing.
-use Rattle.std.proofs.Common.{arith, rules}
+use Rattle.std.proofs.Common.{arith}
 use Rattle.reading_choice.proofs.RankLaws.{way_fits, tick-low, tick_high}
 use Rattle.reading_choice.proofs.tick_of.Goals as goal
 

@@ -1,5 +1,5 @@
 -- `reading_choice::way_of` meets its contract. Assumes nothing.
-use Rattle.std.proofs.Common.{rules, eq-eqb, ne_eqb}
+use Rattle.std.proofs.Common.{eq-eqb, ne_eqb}
 use Rattle.reading_choice.proofs.way_of.Goals as goal
 
 pub returns-then-rank-eq0 : goal.returns-then-rank-eq0

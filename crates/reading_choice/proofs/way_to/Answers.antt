@@ -1,5 +1,5 @@
 -- `reading_choice::way_to` meets its contract. Assumes nothing.
-use Rattle.std.proofs.Common.{arith, rules}
+use Rattle.std.proofs.Common.{arith}
 use Rattle.reading_choice.proofs.RankLaws.{way_by_code}
 use Rattle.reading_choice.proofs.way_to.Goals as goal
 

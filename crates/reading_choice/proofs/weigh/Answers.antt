@@ -1,5 +1,5 @@
 -- `reading_choice::weigh` meets its contract. Assumes nothing.
-use Rattle.std.proofs.Common.{arith, rules}
+use Rattle.std.proofs.Common.{arith}
 use Rattle.refusal.specs.Limits.{longest_cycle}
 use Rattle.shape.proofs.Accepted.{Accepted, shape_clear}
 use Rattle.memory.proofs.Memory.{changed_is}

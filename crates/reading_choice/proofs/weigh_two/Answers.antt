@@ -1,8 +1,7 @@
-use Rattle.std.proofs.Common.{◌≡◌, ◌-◌, ◌≤◌, get_or, ◌∙◌, zero-add, arith, rules}
-use Rattle.memory.specs.Memory.{Changed}
+use Rattle.std.proofs.Common.{◌≡◌, get_or, ◌∙◌, zero-add, arith, rules}
 use Rattle.memory.specs.Parts.{copied}
 use Rattle.memory.proofs.Memory.{changed_start, changed_turn_first, changed_done}
-use Rattle.reading_choice.specs.Ranks.{lower_at, kept_sum, kept_rank}
+use Rattle.reading_choice.specs.Ranks.{lower_at}
 use Rattle.reading_choice.proofs.weigh_two.Goals as goal
 use Rattle.reading_choice.proofs.weigh_two.Goals.{After-lower_pair-first, In-loop-j}
 

@@ -1,10 +1,9 @@
 -- `reading_choice::weigh_two` meets its contract: at each turn the pair of the turn's place is still the one that was lent, so what is
 -- stored is what the contract says. Assumes nothing.
-use Rattle.std.proofs.Common.{◌≡◌, ◌-◌, ◌≤◌, get_or, ◌∙◌, zero-add, arith, rules}
+use Rattle.std.proofs.Common.{◌-◌, ◌≤◌}
 use Rattle.memory.specs.Memory.{Changed}
 use Rattle.memory.specs.Parts.{copied}
-use Rattle.memory.proofs.Memory.{changed_start, changed_turn_first, changed_done}
-use Rattle.reading_choice.specs.Ranks.{lower_at, kept_sum, kept_rank}
+use Rattle.reading_choice.specs.Ranks.{kept_sum, kept_rank}
 use Rattle.reading_choice.proofs.weigh_two.Given as goal
 
 abbrev pub invariant-loop-j : goal.invariant-loop-j

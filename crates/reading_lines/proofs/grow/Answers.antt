@@ -1,9 +1,7 @@
-use Rattle.std.proofs.Common.{◌≡◌, ℕ, ◌+◌, ◌-◌, ◌≤◌, get_or, ap, ◌∙◌, arith, rules}
+use Rattle.std.proofs.Common.{◌≡◌, ℕ, ◌+◌, get_or, ap, ◌∙◌, arith, rules}
 use Rattle.lists.proofs.Difference.{adjusted-added}
 use Rattle.lists.specs.Difference.{adjusted}
 use Rattle.memory.proofs.Memory.{changed_start, changed_turn, changed_done}
-use Rattle.memory.specs.Memory.{Changed}
-use Rattle.memory.specs.Parts.{added}
 use Rattle.reading_lines.proofs.grow.Goals as goal
 
 pub loop-j-init : goal.loop-j-init

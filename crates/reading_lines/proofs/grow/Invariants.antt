@@ -1,8 +1,5 @@
 -- `reading_lines::grow` meets its contract. Assumes nothing.
-use Rattle.std.proofs.Common.{◌≡◌, ℕ, ◌+◌, ◌-◌, ◌≤◌, get_or, ap, ◌∙◌, arith, rules}
-use Rattle.lists.proofs.Difference.{adjusted-added}
-use Rattle.lists.specs.Difference.{adjusted}
-use Rattle.memory.proofs.Memory.{changed_start, changed_turn, changed_done}
+use Rattle.std.proofs.Common.{◌-◌, ◌≤◌}
 use Rattle.memory.specs.Memory.{Changed}
 use Rattle.memory.specs.Parts.{added}
 use Rattle.reading_lines.proofs.grow.Given as goal

@@ -1,8 +1,5 @@
-use Rattle.std.proofs.Common.{◌≡◌, ℕ, ◌+◌, ◌-◌, ◌%◌, ◌^◌, ◌<◌, ◌≤◌, get_or, ap, ◌∙◌, arith, rules}
-use Rattle.memory.specs.Memory.{Changed}
-use Rattle.memory.specs.Parts.{summed}
+use Rattle.std.proofs.Common.{◌≡◌, ℕ, ◌+◌, ◌%◌, ◌^◌, ◌<◌, get_or, ap, ◌∙◌, arith, rules}
 use Rattle.memory.proofs.Memory.{changed_start, changed_turn, changed_done}
-use Rattle.reading_lines.specs.Passes.{moved}
 use Rattle.reading_lines.proofs.Moves.{moved_turn}
 use Rattle.reading_lines.proofs.move_add.Goals as goal
 

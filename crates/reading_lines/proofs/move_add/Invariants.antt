@@ -1,10 +1,8 @@
 -- `reading_lines::move_add` meets its contract. Assumes nothing.
-use Rattle.std.proofs.Common.{◌≡◌, ℕ, ◌+◌, ◌-◌, ◌%◌, ◌^◌, ◌<◌, ◌≤◌, get_or, ap, ◌∙◌, arith, rules}
+use Rattle.std.proofs.Common.{◌-◌, ◌≤◌}
 use Rattle.memory.specs.Memory.{Changed}
 use Rattle.memory.specs.Parts.{summed}
-use Rattle.memory.proofs.Memory.{changed_start, changed_turn, changed_done}
 use Rattle.reading_lines.specs.Passes.{moved}
-use Rattle.reading_lines.proofs.Moves.{moved_turn}
 use Rattle.reading_lines.proofs.move_add.Given as goal
 
 abbrev pub invariant-loop-j : goal.invariant-loop-j

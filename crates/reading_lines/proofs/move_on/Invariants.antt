@@ -1,9 +1,7 @@
 -- `reading_lines::move_on` meets its contract. Assumes nothing.
-use Rattle.std.proofs.Common.{◌+◌, ◌-◌, ◌^◌, ◌<◌, ◌≤◌, arith, rules}
+use Rattle.std.proofs.Common.{◌-◌, ◌≤◌}
 use Rattle.memory.specs.Memory.{Changed}
-use Rattle.memory.proofs.Memory.{changed_start, changed_turn, changed_done}
 use Rattle.reading_lines.specs.Passes.{moved}
-use Rattle.reading_lines.proofs.Moves.{moved_turn}
 use Rattle.reading_lines.proofs.move_on.Given as goal
 
 abbrev pub invariant-loop-j : goal.invariant-loop-j

@@ -1,7 +1,5 @@
-use Rattle.std.proofs.Common.{◌-◌, ◌≤◌, arith, rules}
-use Rattle.memory.specs.Memory.{Changed}
+use Rattle.std.proofs.Common.{arith, rules}
 use Rattle.memory.proofs.Memory.{changed_start, changed_turn_first, changed_done}
-use Rattle.reading_lines.specs.Passes.{stepped}
 use Rattle.reading_lines.proofs.StepLaws.{found_half}
 use Rattle.reading_lines.proofs.steps.Goals as goal
 

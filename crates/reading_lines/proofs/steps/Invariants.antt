@@ -1,9 +1,7 @@
 -- `reading_lines::steps` meets its contract. Assumes nothing.
-use Rattle.std.proofs.Common.{◌-◌, ◌≤◌, arith, rules}
+use Rattle.std.proofs.Common.{◌-◌, ◌≤◌}
 use Rattle.memory.specs.Memory.{Changed}
-use Rattle.memory.proofs.Memory.{changed_start, changed_turn_first, changed_done}
 use Rattle.reading_lines.specs.Passes.{stepped}
-use Rattle.reading_lines.proofs.StepLaws.{found_half}
 use Rattle.reading_lines.proofs.steps.Given as goal
 
 abbrev pub invariant-loop-j : goal.invariant-loop-j

@@ -1,6 +1,5 @@
 -- `reading_planes::place_of` meets its contract. Assumes nothing.
 use native.Mathlib.Omega.{arith}
-use borrow.Author.Rules.{rules}
 use Rattle.reading_planes.proofs.Sums.{sizes, planes_fit, place-fits}
 use Rattle.reading_planes.proofs.place_of.Goals as goal
 

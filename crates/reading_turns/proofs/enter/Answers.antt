@@ -1,8 +1,5 @@
-use Prim.Native.Nat.{◌+◌, ◌-◌}
 use mathlib.Core.Path.{refl, sym, ◌∙◌}
 use native.Mathlib.Omega.{arith}
-use borrow.Author.Rules.{rules}
-use Rattle.lines.specs.Lines.{IsLine}
 use Rattle.reading_planes.specs.Planes.{of_rows, none}
 use Rattle.reading_planes.proofs.Sums.{line_room}
 use Rattle.reading_turns.proofs.Turn.{scratch_kept, position_fits, lay, laid_sizes, laid-room}

@@ -1,14 +1,9 @@
 -- `reading_turns::enter` meets its contract: after the sweep ahead plane 0 is due and weighed, and each turn of the sweep behind does the same
 -- for the plane after it. Assumes nothing.
 use Prim.Native.Nat.{◌+◌, ◌-◌}
-use mathlib.Core.Path.{refl, sym, ◌∙◌}
-use native.Mathlib.Omega.{arith}
-use borrow.Author.Rules.{rules}
 use Rattle.lines.specs.Lines.{IsLine}
 use Rattle.reading_planes.specs.Planes.{of_rows, none}
-use Rattle.reading_planes.proofs.Sums.{line_room}
-use Rattle.reading_turns.proofs.Turn.{scratch_kept, position_fits, lay, laid_sizes, laid-room}
-use Rattle.reading_turns.proofs.Turn.{Turn, turn_built, weigh_asked, turn_weighed, next-room, turn_next, turn_last}
+use Rattle.reading_turns.proofs.Turn.{Turn}
 use Rattle.reading_turns.proofs.enter.Given as goal
 
 abbrev pub invariant-loop-l : goal.invariant-loop-l

@@ -1,19 +1,8 @@
 -- `reading_turns::stay` meets its contract: after the sweep ahead plane 0 is due and weighed, and each turn of the sweep behind does the same
 -- for the plane after it. Assumes nothing.
-use Prim.Native.Nat.{ℕ, ◌+◌, ◌-◌}
-use mathlib.Core.Path.{◌≡◌, refl, sym, ◌∙◌}
-use mathlib.Core.Bool.{Bool, true}
-use mathlib.Core.List.{List}
-use native.Mathlib.Omega.{arith}
-use borrow.Author.Rules.{rules}
-use Rattle.shape.specs.declared.Shape.{Shape}
-use Rattle.lines.specs.Lines.{Line}
+use Prim.Native.Nat.{◌+◌, ◌-◌}
 use Rattle.reading_lines.specs.Passes.{of_line}
-use Rattle.reading_planes.proofs.Sums.{line_room}
-use Rattle.reading_sums.specs.CarryLines.{Plain, CarryLines}
-use Rattle.reading_turns.specs.Scratch.{Scratch}
-use Rattle.reading_turns.proofs.Turn.{scratch_kept, position_fits, lay, laid_sizes, laid-room}
-use Rattle.reading_turns.proofs.Turn.{Turn, turn_carried, weigh_asked, turn_weighed, next-room, turn_next, turn_last}
+use Rattle.reading_turns.proofs.Turn.{Turn}
 use Rattle.reading_turns.proofs.stay.Given as goal
 
 abbrev pub invariant-loop-l : goal.invariant-loop-l

@@ -1,7 +1,6 @@
 -- `record_write::put_head` meets its contract. Assumes nothing.
 use native.Mathlib.Omega.{arith}
 use native.Mathlib.Numerals.{add-one}
-use borrow.Author.Rules.{rules}
 use lib.ListN.{length-set}
 use Rattle.record_write.proofs.put_head.Goals as goal
 

@@ -1,10 +1,9 @@
-use Prim.Native.Nat.{◌+◌, ◌-◌, ◌≤◌}
+use Prim.Native.Nat.{◌+◌}
 use mathlib.Core.Path.{◌≡◌}
 use native.Mathlib.Omega.{arith}
-use borrow.Author.Rules.{rules}
 use lib.ListN.{length, take, get_or, length-take}
 use lib.Seq.{take_all}
-use Rattle.lists.proofs.Stores.{Stored, stored_none, stored_more}
+use Rattle.lists.proofs.Stores.{stored_none, stored_more}
 use Rattle.record_format.specs.Layout.{numbers_length}
 use Rattle.record_format.specs.Fields.{number, numbers}
 use Rattle.record_format.proofs.Fields.{length-numbers, numbers_last}

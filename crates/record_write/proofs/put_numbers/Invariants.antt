@@ -1,14 +1,8 @@
 -- `record_write::put_numbers` meets its contract. Assumes nothing.
-use Prim.Native.Nat.{◌+◌, ◌-◌, ◌≤◌}
-use mathlib.Core.Path.{◌≡◌}
-use native.Mathlib.Omega.{arith}
-use borrow.Author.Rules.{rules}
-use lib.ListN.{length, take, get_or, length-take}
-use lib.Seq.{take_all}
-use Rattle.lists.proofs.Stores.{Stored, stored_none, stored_more}
-use Rattle.record_format.specs.Layout.{numbers_length}
-use Rattle.record_format.specs.Fields.{number, numbers}
-use Rattle.record_format.proofs.Fields.{length-numbers, numbers_last}
+use Prim.Native.Nat.{◌-◌, ◌≤◌}
+use lib.ListN.{length, take}
+use Rattle.lists.proofs.Stores.{Stored}
+use Rattle.record_format.specs.Fields.{numbers}
 use Rattle.record_write.proofs.put_numbers.Given as goal
 
 abbrev pub invariant-loop-k : goal.invariant-loop-k

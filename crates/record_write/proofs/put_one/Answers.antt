@@ -1,7 +1,6 @@
 -- `record_write::put_one` meets its contract. Assumes nothing.
 use mathlib.Core.List.{◌∷◌}
 use native.Mathlib.Omega.{arith}
-use borrow.Author.Rules.{rules}
 use Rattle.lists.proofs.Stores.{Stored, stored, stored_more}
 use Rattle.record_format.specs.Layout.{number_length, body_of}
 use Rattle.record_format.specs.Fields.{number, numbers, field}

@@ -1,7 +1,6 @@
 -- `record_write::put_row` meets its contract. Assumes nothing.
 use mathlib.Core.List.{◌∷◌}
 use native.Mathlib.Omega.{arith}
-use borrow.Author.Rules.{rules}
 use lib.ListN.{length}
 use Rattle.lists.proofs.Stores.{Stored, stored, stored_more}
 use Rattle.record_format.specs.Layout.{body_of, numbers_length}

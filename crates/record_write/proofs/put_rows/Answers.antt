@@ -1,11 +1,10 @@
-use Prim.Native.Nat.{◌+◌, ◌*◌, ◌-◌, ◌≤◌}
+use Prim.Native.Nat.{◌+◌, ◌-◌, ◌≤◌}
 use mathlib.Core.Path.{◌≡◌}
 use native.Mathlib.Omega.{arith}
-use borrow.Author.Rules.{rules}
 use lib.ListN.{length, take, drop, length-take, length-drop}
 use Rattle.lists.specs.Joined.{joined}
 use Rattle.lists.proofs.Joined.{joined_more}
-use Rattle.lists.proofs.Stores.{Stored, stored_none, stored_more}
+use Rattle.lists.proofs.Stores.{stored_none, stored_more}
 use Rattle.record_format.specs.Layout.{row_fields_at, field_length}
 use Rattle.record_format.specs.Record.{row_field}
 use Rattle.lists.proofs.Parts.{part_end}

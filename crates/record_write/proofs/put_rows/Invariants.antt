@@ -2,17 +2,10 @@
 -- the field of row i follows them. Assumes nothing.
 use Prim.Native.Nat.{◌+◌, ◌*◌, ◌-◌, ◌≤◌}
 use mathlib.Core.Path.{◌≡◌}
-use native.Mathlib.Omega.{arith}
-use borrow.Author.Rules.{rules}
-use lib.ListN.{length, take, drop, length-take, length-drop}
 use Rattle.lists.specs.Joined.{joined}
-use Rattle.lists.proofs.Joined.{joined_more}
-use Rattle.lists.proofs.Stores.{Stored, stored_none, stored_more}
+use Rattle.lists.proofs.Stores.{Stored}
 use Rattle.record_format.specs.Layout.{row_fields_at, field_length}
 use Rattle.record_format.specs.Record.{row_field}
-use Rattle.lists.proofs.Parts.{part_end}
-use Rattle.shape.specs.Rules.{row_of}
-use Rattle.record_format.proofs.Fields.{length_row_fields}
 use Rattle.record_write.proofs.put_rows.Given as goal
 
 abbrev pub invariant-loop-i : goal.invariant-loop-i

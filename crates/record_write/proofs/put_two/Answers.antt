@@ -2,7 +2,6 @@
 use Prim.Native.Nat.{◌+◌}
 use mathlib.Core.List.{◌∷◌}
 use native.Mathlib.Omega.{arith}
-use borrow.Author.Rules.{rules}
 use Rattle.lists.proofs.Stores.{Stored, stored, stored_more}
 use Rattle.record_format.specs.Layout.{number_length, body_of, numbers_length}
 use Rattle.record_format.specs.Fields.{number, numbers, field}

@@ -1,6 +1,5 @@
 -- `record_write::write_verdict` meets its contract. Assumes nothing.
 use mathlib.Core.Path.{sym, ◌∙◌}
-use borrow.Author.Rules.{rules}
 use Rattle.refusal.specs.Limits.{longest_cycle}
 use Rattle.refusal.proofs.Outcome.{passed_clear, passed_on, refused-before}
 use Rattle.shape.specs.Rules.{shape_rules}

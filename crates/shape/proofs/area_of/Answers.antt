@@ -1,6 +1,5 @@
 -- `shape::area_of` meets its contract: a product of two numbers of 32 bits. Assumes nothing.
 use native.Mathlib.Omega.{arith}
-use borrow.Author.Rules.{rules}
 use Rattle.shape.proofs.Accepted.{product_fits}
 use Rattle.shape.proofs.area_of.Goals as goal
 

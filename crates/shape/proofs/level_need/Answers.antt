@@ -1,7 +1,6 @@
 -- `shape::level_need` meets its contract: a product of two numbers of 32 bits. Assumes nothing.
 use Prim.Native.Nat.{◌+◌}
 use native.Mathlib.Omega.{arith}
-use borrow.Author.Rules.{rules}
 use Rattle.shape.proofs.Accepted.{product_fits}
 use Rattle.shape.proofs.level_need.Goals as goal
 

@@ -1,5 +1,4 @@
 -- `shape::mask_verdict` meets its contract. Assumes nothing.
-use borrow.Author.Rules.{rules}
 use Rattle.refusal.specs.Limits.{most_mask_rows, most_mask_columns}
 use Rattle.refusal.proofs.Outcome.{first_of_due}
 use Rattle.shape.specs.Rules.{side_rules}

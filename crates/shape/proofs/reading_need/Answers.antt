@@ -2,7 +2,6 @@
 use Prim.Native.Nat.{◌+◌, ◌*◌, ◌≤◌}
 use native.Mathlib.Nat.{mul-le-mul}
 use native.Mathlib.Omega.{arith}
-use borrow.Author.Rules.{rules}
 use Rattle.refusal.specs.Limits.{most_mask_rows, most_mask_columns}
 use Rattle.shape.proofs.Accepted.{product_fits}
 use Rattle.shape.proofs.reading_need.Goals as goal

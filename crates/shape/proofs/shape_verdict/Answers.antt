@@ -1,6 +1,5 @@
 -- `shape::shape_verdict` meets its contract: a group of tests before two others. Assumes nothing.
 use mathlib.Core.List.{◌++◌}
-use borrow.Author.Rules.{rules}
 use Rattle.refusal.proofs.Outcome.{first_of_due}
 use Rattle.cycle.specs.Calls.{cycle_rules}
 use Rattle.shape.specs.Rules.{size_rules, mask_rules}

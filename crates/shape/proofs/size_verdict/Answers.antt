@@ -1,5 +1,4 @@
 -- `shape::size_verdict` meets its contract. Assumes nothing.
-use borrow.Author.Rules.{rules}
 use Rattle.refusal.specs.Limits.{most_rows, most_columns}
 use Rattle.refusal.specs.Outcome.{range_rules}
 use Rattle.refusal.proofs.Outcome.{first_of_due}

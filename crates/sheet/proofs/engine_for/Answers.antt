@@ -1,7 +1,6 @@
 -- `sheet::engine_for` meets its contract. Assumes nothing.
 use native.Mathlib.Omega.{arith}
 use borrow.Author.Tests.{lt-ltb, le-ltb}
-use borrow.Author.Rules.{rules}
 use Rattle.refusal.specs.Limits.{level_cycle}
 use Rattle.shape.specs.Need.{level_need}
 use Rattle.sheet.proofs.engine_for.Goals as goal

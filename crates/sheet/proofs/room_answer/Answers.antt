@@ -1,6 +1,5 @@
 -- `sheet::room_answer` meets its contract. Assumes nothing.
 use mathlib.Core.Path.{◌≡◌, ap, sym, ◌∙◌}
-use borrow.Author.Rules.{rules}
 use Rattle.refusal.specs.Outcome.{Outcome, verdict, and_then}
 use Rattle.refusal.specs.Outcome.Outcome.{accepted}
 use Rattle.filter.specs.Calls.{room_due}

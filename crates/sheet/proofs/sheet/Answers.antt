@@ -1,6 +1,5 @@
 -- `sheet::sheet` meets its contract. Assumes nothing.
 use mathlib.Core.Path.{◌≡◌, ap, sym, ◌∙◌}
-use borrow.Author.Rules.{rules}
 use lib.ListN.{length}
 use Rattle.refusal.specs.Outcome.Outcome.{accepted}
 use Rattle.record.specs.Calls.{read_outcome}

@@ -1,6 +1,5 @@
 -- `sheet::sheet_verdict` meets its contract. Assumes nothing.
 use mathlib.Core.Path.{◌≡◌, ap, sym, ◌∙◌}
-use borrow.Author.Rules.{rules}
 use Rattle.record.specs.Calls.{read_outcome}
 use Rattle.record_format.specs.Reading.{read_due}
 use Rattle.sheet.proofs.Calls.{long_call, unread_call, read_call}

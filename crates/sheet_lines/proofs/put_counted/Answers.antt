@@ -1,5 +1,4 @@
 -- `sheet_lines::put_counted` meets its contract. Assumes nothing.
-use borrow.Author.Rules.{rules}
 use Rattle.text.proofs.TextLaws.{laid_more}
 use Rattle.sheet_lines.proofs.put_counted.Goals as goal
 

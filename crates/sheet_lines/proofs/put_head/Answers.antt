@@ -2,7 +2,6 @@
 use Prim.Native.Nat.{◌≤◌}
 use mathlib.Core.Path.{◌∙◌}
 use native.Mathlib.Omega.{arith}
-use borrow.Author.Rules.{rules}
 use Rattle.text.proofs.TextLaws.{laid_more}
 use Rattle.sheet_lines.specs.Words.{cycle_word, rows_word, columns_word, mask_word, space}
 use Rattle.sheet_lines.proofs.Lengths.{counted_most}

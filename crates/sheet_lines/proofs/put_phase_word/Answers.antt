@@ -1,6 +1,5 @@
 -- `sheet_lines::put_phase_word` meets its contract. Assumes nothing.
 use native.Mathlib.Omega.{arith}
-use borrow.Author.Rules.{rules}
 use Rattle.sheet_lines.proofs.WordLaws.{word_silent, word_heard}
 use Rattle.sheet_lines.proofs.put_phase_word.Goals as goal
 

@@ -1,15 +1,7 @@
 -- `sheet_lines::put_phases` meets its contract. Assumes nothing.
-use Prim.Native.Nat.{ℕ, ◌-◌, ◌≤◌}
-use mathlib.Core.Path.{subst}
-use mathlib.Core.List.{List}
-use native.Mathlib.Omega.{arith}
-use borrow.Author.Rules.{rules}
-use lib.Seq.{take_all}
-use lib.ListN.{length, take, length-take}
-use Rattle.text.proofs.TextLaws.{laid_none, laid_more, laid-length}
+use Prim.Native.Nat.{◌-◌, ◌≤◌}
+use lib.ListN.{length, take}
 use Rattle.text.specs.Text.{Laid}
-use Rattle.sheet_lines.proofs.WordLaws.{words_more}
-use Rattle.sheet_lines.proofs.Lengths.{words_most}
 use Rattle.sheet_lines.specs.Lines.{phase_words}
 use Rattle.sheet_lines.proofs.put_phases.Given as goal
 

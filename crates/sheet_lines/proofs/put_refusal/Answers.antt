@@ -3,7 +3,6 @@ use Prim.Native.Nat.{ℕ}
 use mathlib.Core.Path.{ap₂, subst}
 use mathlib.Core.List.{List}
 use native.Mathlib.Omega.{arith}
-use borrow.Author.Rules.{rules}
 use Rattle.text.specs.Text.{Laid}
 use Rattle.text.proofs.TextLaws.{laid_more}
 use Rattle.sheet_lines.specs.Lines.{refusal_line}

@@ -2,10 +2,8 @@
 use Prim.Native.Nat.{◌+◌, ◌^◌, ◌<◌}
 use mathlib.Core.Path.{◌≡◌, ◌∙◌}
 use native.Mathlib.Omega.{arith}
-use borrow.Author.Rules.{rules}
 use lib.ListN.{length}
 use mir.Val.{to_z, of_z}
-use mir.Facts.{to_z-of_z}
 use mir.Syntax.{w32}
 use Rattle.text.proofs.TextLaws.{laid_more}
 use Rattle.text.specs.Text.{signed}

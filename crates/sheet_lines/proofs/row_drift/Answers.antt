@@ -1,6 +1,5 @@
 -- `sheet_lines::row_drift` meets its contract. Assumes nothing.
 use mathlib.Core.Path.{◌∙◌}
-use borrow.Author.Rules.{rules}
 use mir.Facts.{to_z-of_z}
 use mir.Syntax.{w32}
 use Rattle.cycle.proofs.Sizes.{drift-fits}

@@ -1,7 +1,6 @@
 -- `sheet_runs::print_all` meets its contract. Assumes nothing.
 use Prim.Native.Nat.{◌≤◌, ◌-◌}
 use mathlib.Core.Path.{◌≡◌}
-use borrow.Author.Rules.{rules}
 use lib.ListN.{length}
 use Rattle.sheet_runs.proofs.print_all.Given as goal
 

@@ -1,5 +1,4 @@
 -- `text::put_byte` meets its contract. Assumes nothing.
-use borrow.Author.Rules.{rules}
 use Rattle.text.proofs.TextLaws.{laid_one, laid_full}
 use Rattle.text.proofs.put_byte.Goals as goal
 

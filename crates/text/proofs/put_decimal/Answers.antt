@@ -1,9 +1,8 @@
 use Prim.Native.Nat.{◌<◌}
 use mathlib.Core.Path.{refl}
 use native.Mathlib.Omega.{arith}
-use borrow.Author.Rules.{rules}
 use lib.ListN.{replicate}
-use Rattle.text.proofs.DigitLaws.{Digits, digits-start, digits_left, digits_turn, digits-end}
+use Rattle.text.proofs.DigitLaws.{digits-start, digits_left, digits_turn, digits-end}
 use Rattle.text.proofs.put_decimal.Goals as goal
 
 pub loop-rest-init : goal.loop-rest-init

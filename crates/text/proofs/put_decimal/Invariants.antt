@@ -1,10 +1,5 @@
 -- `text::put_decimal` meets its contract. Assumes nothing.
-use Prim.Native.Nat.{◌<◌}
-use mathlib.Core.Path.{refl}
-use native.Mathlib.Omega.{arith}
-use borrow.Author.Rules.{rules}
-use lib.ListN.{replicate}
-use Rattle.text.proofs.DigitLaws.{Digits, digits-start, digits_left, digits_turn, digits-end}
+use Rattle.text.proofs.DigitLaws.{Digits}
 use Rattle.text.proofs.put_decimal.Given as goal
 
 abbrev pub invariant-loop-rest : goal.invariant-loop-rest

@@ -1,5 +1,4 @@
 -- `text::put_signed` meets its contract. Assumes nothing.
-use borrow.Author.Rules.{rules}
 use Rattle.text.proofs.TextLaws.{laid_more}
 use Rattle.text.proofs.DigitLaws.{signed_below, signed_other}
 use Rattle.text.proofs.put_signed.Goals as goal

@@ -3,7 +3,6 @@ use Prim.Native.Nat.{◌*◌, ◌<◌}
 use mathlib.Core.Path.{ap, sym, ◌∙◌}
 use native.Mathlib.Omega.{arith}
 use native.Mathlib.Nat.{mod-lt}
-use borrow.Author.Rules.{rules}
 use Rattle.window.specs.Mirror.{folded}
 use Rattle.window.proofs.Mirror.{folded_low, folded_high}
 use Rattle.window.proofs.along_and_back.Goals as goal

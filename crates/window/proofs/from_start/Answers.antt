@@ -1,6 +1,5 @@
 -- `window::from_start` meets its contract. Assumes nothing.
 use native.Mathlib.Omega.{arith}
-use borrow.Author.Rules.{rules}
 use Rattle.window.proofs.from_start.Goals as goal
 
 pub returns-then-position-reach : goal.returns-then-position-reach

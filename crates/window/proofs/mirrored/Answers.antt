@@ -3,7 +3,6 @@ use Prim.Native.Nat.{ℕ, ◌*◌, ◌%◌}
 use mathlib.Core.Path.{◌≡◌, ap, sym, ◌∙◌}
 use native.Mathlib.Omega.{arith}
 use native.Mathlib.Nat.{mod-eq_of_lt}
-use borrow.Author.Rules.{rules}
 use Rattle.window.specs.Mirror.{folded, mirror}
 use Rattle.window.proofs.Mirror.{folded_low, mirror_from_start}
 use Rattle.window.proofs.mirrored.Goals as goal

@@ -1,7 +1,6 @@
 -- `window::without_rounds` meets its contract. Assumes nothing.
 use mathlib.Core.Path.{sym}
 use native.Mathlib.Nat.{mod-eq_of_lt}
-use borrow.Author.Rules.{rules}
 use Rattle.window.proofs.without_rounds.Goals as goal
 
 pub returns-then-k-round : goal.returns-then-k-round

@@ -1,5 +1,4 @@
 -- `circle_median::answers::filter_answer` meets its contract. Assumes nothing.
-use borrow.Author.Rules.{rules}
 use Rattle.circle_median.proofs.answers.filter_answer.Goals as goal
 
 pub returns-in-Filtered : goal.returns-in-Filtered

@@ -1,5 +1,4 @@
 -- `circle_median::answers::fresh_answer` meets its contract. Assumes nothing.
-use borrow.Author.Rules.{rules}
 use Rattle.circle_median.proofs.answers.fresh_answer.Goals as goal
 
 pub returns-in-Fresh : goal.returns-in-Fresh

@@ -1,7 +1,6 @@
 -- `circle_median::answers::live_answer` meets its contract. Assumes nothing.
 use mathlib.Core.Path.{◌≡◌, ap, sym, ◌∙◌}
 use native.Mathlib.Omega.{arith}
-use borrow.Author.Rules.{rules}
 use lib.IntN.{ℤ}
 use mir.Facts.{to_z_pos}
 use mir.Syntax.{w64}

@@ -1,5 +1,4 @@
 -- `circle_median::answers::refused_record` meets its contract. Assumes nothing.
-use borrow.Author.Rules.{rules}
 use Rattle.circle_median.proofs.answers.refused_record.Goals as goal
 
 pub returns : goal.returns

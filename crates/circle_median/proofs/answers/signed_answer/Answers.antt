@@ -1,7 +1,6 @@
 -- `circle_median::answers::signed_answer` meets its contract. Assumes nothing.
 use Prim.Native.Nat.{◌^◌, ◌<◌}
 use mathlib.Core.Path.{ap, sym, ◌∙◌}
-use borrow.Author.Rules.{rules}
 use lib.IntN.{ℤ}
 use lib.Signed.{mag}
 use Rattle.refusal.specs.Outcome.Outcome.{accepted}

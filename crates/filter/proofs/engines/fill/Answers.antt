@@ -1,7 +1,6 @@
 -- `filter::engines::fill` meets its contract: each engine's contract is that of its case. Assumes nothing.
 use mathlib.Core.Path.{◌≡◌, subst}
 use lib.ListN.{length}
-use borrow.Author.Rules.{rules}
 use Rattle.lines.specs.Rows.{Fillable}
 use Rattle.filter.specs.Calls.{limit, need}
 use Rattle.filter.specs.declared.Engine.{Engine}

@@ -1,6 +1,5 @@
 -- `filter::engines::need_of` meets its contract: each engine's need is that of its case. Assumes nothing.
 use mathlib.Core.Path.{ap, sym, ◌∙◌}
-use borrow.Author.Rules.{rules}
 use Rattle.shape.proofs.Accepted.{shape_clear}
 use Rattle.filter.specs.declared.Engine.{Engine}
 use Rattle.filter.specs.Calls.{limit, need}

@@ -2,7 +2,6 @@
 use Prim.Native.Nat.{ℕ}
 use mathlib.Core.Path.{ap, sym, ◌∙◌}
 use mathlib.Core.List.{List}
-use borrow.Author.Rules.{rules}
 use Rattle.refusal.specs.Outcome.{Rule, Clear, first_due}
 use Rattle.refusal.proofs.Outcome.{passed_clear, passed_on, refused-before}
 use Rattle.shape.specs.Rules.{shape_rules}

@@ -2,7 +2,6 @@
 use Prim.Native.Nat.{ℕ}
 use mathlib.Core.Path.{◌≡◌, ap, sym, ◌∙◌}
 use mathlib.Core.List.{List, [], ◌∷◌, ◌++◌}
-use borrow.Author.Rules.{rules}
 use lib.ListN.{length}
 use Rattle.refusal.specs.Outcome.{Rule, first_due, verdict}
 use Rattle.refusal.proofs.Outcome.{first_of_due, refused-before, passed_on}

@@ -1,6 +1,5 @@
 -- `filter::verdicts::memory_verdict` meets its contract. Assumes nothing.
 use mathlib.Core.List.{[], ◌∷◌}
-use borrow.Author.Rules.{rules}
 use Rattle.refusal.proofs.Outcome.{first_of_due}
 use Rattle.shape.specs.Rules.{buffer_rule, work_rule}
 use Rattle.filter.proofs.verdicts.memory_verdict.Goals as goal

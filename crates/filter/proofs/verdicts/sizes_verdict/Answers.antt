@@ -1,7 +1,6 @@
 -- `filter::verdicts::sizes_verdict` meets its contract. Assumes nothing.
 use Prim.Native.Nat.{ℕ}
 use mathlib.Core.Path.{ap, ◌∙◌}
-use borrow.Author.Rules.{rules}
 use Rattle.refusal.specs.Outcome.{first_due}
 use Rattle.shape.specs.Rules.{shape_rules}
 use Rattle.filter.proofs.verdicts.sizes_verdict.Goals as goal

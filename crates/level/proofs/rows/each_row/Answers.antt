@@ -1,4 +1,4 @@
-use Prim.Native.Nat.{ℕ, ◌+◌, ◌-◌, ◌*◌, ◌≤◌, ◌<◌}
+use Prim.Native.Nat.{ℕ, ◌+◌, ◌-◌, ◌*◌, ◌≤◌}
 use mathlib.Core.Path.{◌≡◌, ap, sym, ◌∙◌}
 use native.Mathlib.Nat.{mul-le-mul_right}
 use native.Mathlib.Omega.{arith}
@@ -8,14 +8,10 @@ use lib.ListN.{length}
 use Rattle.lists.specs.Tabulate.{written}
 use Rattle.lists.proofs.Written.{Run, run_start, run_part, written_join, part_length}
 use Rattle.refusal.specs.Limits.{most_rows, most_columns}
-use Rattle.shape.specs.Need.{level_need}
 use Rattle.shape.proofs.Accepted.{row_room}
-use Rattle.memory.specs.Memory.{Outside}
 use Rattle.memory.proofs.Memory.{outside-none, outside_more}
 use Rattle.window.specs.Phase.{phase_at}
-use Rattle.lines.specs.Lines.{IsLine}
 use Rattle.lines.proofs.Given.{given_kept}
-use Rattle.level_sums.specs.Sums.{RowSums}
 use Rattle.level_sums.proofs.Room.{accepted}
 use Rattle.level.proofs.RowLaws.{next_place}
 use Rattle.level.proofs.rows.each_row.Goals as goal

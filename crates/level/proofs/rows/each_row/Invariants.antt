@@ -1,25 +1,12 @@
 -- `level::rows::each_row` meets its contract: after each turn the rows before row i + 1 stand in the output, and the work memory has
 -- the sums of row i. Assumes nothing.
-use Prim.Native.Nat.{ℕ, ◌+◌, ◌-◌, ◌*◌, ◌≤◌, ◌<◌}
-use mathlib.Core.Path.{◌≡◌, ap, sym, ◌∙◌}
-use native.Mathlib.Nat.{mul-le-mul_right}
-use native.Mathlib.Omega.{arith}
-use borrow.Author.Rules.{rules}
-use borrow.Rule.Slice.PartMut.{put_mid}
-use lib.ListN.{length}
-use Rattle.lists.specs.Tabulate.{written}
-use Rattle.lists.proofs.Written.{Run, run_start, run_part, written_join, part_length}
-use Rattle.refusal.specs.Limits.{most_rows, most_columns}
+use Prim.Native.Nat.{◌+◌, ◌-◌, ◌*◌, ◌≤◌, ◌<◌}
+use Rattle.lists.proofs.Written.{Run}
 use Rattle.shape.specs.Need.{level_need}
-use Rattle.shape.proofs.Accepted.{row_room}
 use Rattle.memory.specs.Memory.{Outside}
-use Rattle.memory.proofs.Memory.{outside-none, outside_more}
 use Rattle.window.specs.Phase.{phase_at}
 use Rattle.lines.specs.Lines.{IsLine}
-use Rattle.lines.proofs.Given.{given_kept}
 use Rattle.level_sums.specs.Sums.{RowSums}
-use Rattle.level_sums.proofs.Room.{accepted}
-use Rattle.level.proofs.RowLaws.{next_place}
 use Rattle.level.proofs.rows.each_row.Given as goal
 
 abbrev pub invariant-loop-i : goal.invariant-loop-i

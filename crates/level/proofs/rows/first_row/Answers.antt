@@ -1,13 +1,10 @@
-use Prim.Native.Nat.{ℕ, ◌+◌, ◌-◌, ◌*◌, ◌<◌}
+use Prim.Native.Nat.{ℕ, ◌+◌}
 use mathlib.Core.Path.{◌≡◌, sym, ◌∙◌}
 use mathlib.Core.List.{List}
 use native.Mathlib.Omega.{arith}
-use borrow.Author.Rules.{rules}
-use Rattle.shape.specs.Need.{level_need}
-use Rattle.level.proofs.RowLaws.{ready_longest, Ripe, ripe, RowSoFar, row_none, row_turn, row_all, sums_more, changed_outside, holds_at}
+use Rattle.level.proofs.RowLaws.{ready_longest, Ripe, ripe, row_none, row_turn, row_all, sums_more, changed_outside, holds_at}
 use Rattle.level_sums.proofs.Room.{accepted, column_room, need-fits}
-use Rattle.level_sums.specs.Sums.{window_sum, RowSums}
-use Rattle.memory.specs.Memory.{Outside}
+use Rattle.level_sums.specs.Sums.{window_sum}
 use Rattle.memory.proofs.Memory.{outside-none, outside_more}
 use Rattle.lines.proofs.Given.{given_kept}
 use Rattle.level.proofs.rows.first_row.Goals as goal

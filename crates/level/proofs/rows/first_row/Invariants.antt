@@ -1,17 +1,11 @@
 -- `level::rows::first_row` meets its contract: after column j the sums of the columns up to j stand in the work memory, and their phases
 -- in the output. Assumes nothing.
-use Prim.Native.Nat.{ℕ, ◌+◌, ◌-◌, ◌*◌, ◌<◌}
-use mathlib.Core.Path.{◌≡◌, sym, ◌∙◌}
-use mathlib.Core.List.{List}
-use native.Mathlib.Omega.{arith}
-use borrow.Author.Rules.{rules}
+use Prim.Native.Nat.{◌+◌, ◌-◌, ◌*◌, ◌<◌}
+use mathlib.Core.Path.{◌≡◌}
 use Rattle.shape.specs.Need.{level_need}
-use Rattle.level.proofs.RowLaws.{ready_longest, Ripe, ripe, RowSoFar, row_none, row_turn, row_all, sums_more, changed_outside, holds_at}
-use Rattle.level_sums.proofs.Room.{accepted, column_room, need-fits}
-use Rattle.level_sums.specs.Sums.{window_sum, RowSums}
+use Rattle.level.proofs.RowLaws.{RowSoFar}
+use Rattle.level_sums.specs.Sums.{RowSums}
 use Rattle.memory.specs.Memory.{Outside}
-use Rattle.memory.proofs.Memory.{outside-none, outside_more}
-use Rattle.lines.proofs.Given.{given_kept}
 use Rattle.level.proofs.rows.first_row.Given as goal
 
 abbrev pub invariant-loop-j : goal.invariant-loop-j

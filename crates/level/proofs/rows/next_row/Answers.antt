@@ -1,13 +1,10 @@
-use Prim.Native.Nat.{ℕ, ◌+◌, ◌-◌, ◌*◌, ◌<◌}
+use Prim.Native.Nat.{ℕ, ◌+◌, ◌*◌}
 use mathlib.Core.Path.{◌≡◌, sym, ◌∙◌, refl}
 use mathlib.Core.List.{List}
 use native.Mathlib.Omega.{arith}
-use borrow.Author.Rules.{rules}
-use Rattle.shape.specs.Need.{level_need}
-use Rattle.level.proofs.RowLaws.{ready_longest, Ripe, ripe, lowest-held, RowSoFar, row_none, row_turn, row_all, next_more, old_less, turned-outside, holds_at}
+use Rattle.level.proofs.RowLaws.{ready_longest, Ripe, ripe, lowest-held, row_none, row_turn, row_all, next_more, old_less, turned-outside, holds_at}
 use Rattle.level_sums.proofs.Room.{accepted, column_room, need-fits}
-use Rattle.level_sums.specs.Sums.{window_sum, row_change, RowSums}
-use Rattle.memory.specs.Memory.{Holds, Outside}
+use Rattle.level_sums.specs.Sums.{window_sum}
 use Rattle.memory.proofs.Memory.{outside-none, outside_more}
 use Rattle.lines.proofs.Given.{given_kept}
 use Rattle.level.proofs.rows.next_row.Goals as goal

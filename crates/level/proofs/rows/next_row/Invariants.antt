@@ -1,17 +1,11 @@
 -- `level::rows::next_row` meets its contract: after column j the work memory has the sums of the next row for the columns up to j and
 -- those of row i for the others, and the differences at column j; the output has the phases up to j. Assumes nothing.
-use Prim.Native.Nat.{ℕ, ◌+◌, ◌-◌, ◌*◌, ◌<◌}
-use mathlib.Core.Path.{◌≡◌, sym, ◌∙◌, refl}
-use mathlib.Core.List.{List}
-use native.Mathlib.Omega.{arith}
-use borrow.Author.Rules.{rules}
+use Prim.Native.Nat.{◌+◌, ◌-◌, ◌*◌, ◌<◌}
+use mathlib.Core.Path.{◌≡◌}
 use Rattle.shape.specs.Need.{level_need}
-use Rattle.level.proofs.RowLaws.{ready_longest, Ripe, ripe, lowest-held, RowSoFar, row_none, row_turn, row_all, next_more, old_less, turned-outside, holds_at}
-use Rattle.level_sums.proofs.Room.{accepted, column_room, need-fits}
-use Rattle.level_sums.specs.Sums.{window_sum, row_change, RowSums}
+use Rattle.level.proofs.RowLaws.{RowSoFar}
+use Rattle.level_sums.specs.Sums.{row_change, RowSums}
 use Rattle.memory.specs.Memory.{Holds, Outside}
-use Rattle.memory.proofs.Memory.{outside-none, outside_more}
-use Rattle.lines.proofs.Given.{given_kept}
 use Rattle.level.proofs.rows.next_row.Given as goal
 
 abbrev pub invariant-loop-j : goal.invariant-loop-j

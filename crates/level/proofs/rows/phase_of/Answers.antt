@@ -1,7 +1,6 @@
 -- `level::rows::phase_of` meets its contract. Assumes nothing.
 use mathlib.Core.Path.{refl}
 use native.Mathlib.Omega.{arith}
-use borrow.Author.Rules.{rules}
 use Rattle.cycle.proofs.SilenceLaws.{not_silent, heard-tick}
 use Rattle.median.proofs.Choice.{candidate_below}
 use Rattle.level.proofs.rows.phase_of.Goals as goal

@@ -1,14 +1,11 @@
-use Prim.Native.Nat.{◌+◌, ◌-◌, ◌≤◌}
+use Prim.Native.Nat.{◌+◌}
 use mathlib.Core.Path.{◌≡◌, ◌∙◌, refl}
 use native.Mathlib.Omega.{arith}
-use Rattle.lists.specs.Difference.{difference}
-use Rattle.memory.specs.Memory.{Changed}
 use Rattle.memory.proofs.Memory.{changed_none, changed_is}
 use Rattle.level_sums.specs.Sums.{block_sum}
 use Rattle.level_sums.proofs.Room.{accepted, columns_room}
 use Rattle.level_sums.proofs.Running.{run_added}
 use Rattle.level_sums.proofs.ColumnLaws.{part_sum, part_none, part_more, part_all}
-use borrow.Author.Rules.{rules}
 use Rattle.level_sums.proofs.columns.add_mask_row.Goals as goal
 
 pub loop-l-init : goal.loop-l-init

@@ -11,7 +11,6 @@ use Rattle.level_sums.specs.Sums.{window_sum, row_change}
 use Rattle.level_sums.proofs.Room.{columns_room, column_room}
 use Rattle.level_sums.proofs.Running.{turned-is, Pass, pass, pass_signed, pass_done}
 use Rattle.level_sums.proofs.ColumnLaws.{window-signed, change_next, row_next}
-use borrow.Author.Rules.{rules}
 use Rattle.level_sums.proofs.columns.advance.Goals as goal
 use Rattle.level_sums.proofs.columns.advance.Goals.{After-part_at-out2, Start}
 

@@ -1,12 +1,10 @@
-use Prim.Native.Nat.{◌+◌, ◌-◌, ◌≤◌}
+use Prim.Native.Nat.{◌+◌}
 use mathlib.Core.Path.{◌≡◌, ◌∙◌}
 use native.Mathlib.Omega.{arith}
-use Rattle.memory.specs.Memory.{Changed}
 use Rattle.memory.proofs.Memory.{changed_none, changed_again}
 use Rattle.level_sums.proofs.Room.{columns_room}
 use Rattle.level_sums.proofs.Running.{run_swapped}
-use Rattle.level_sums.proofs.ColumnLaws.{row_sum, row_more, change_run, change_none}
-use borrow.Author.Rules.{rules}
+use Rattle.level_sums.proofs.ColumnLaws.{row_sum, row_more, change_none}
 use Rattle.level_sums.proofs.columns.first_change.Goals as goal
 
 pub clear-requires : goal.clear-requires

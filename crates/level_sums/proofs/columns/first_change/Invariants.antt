@@ -1,14 +1,8 @@
 -- `level_sums::columns::first_change` meets its contract: after l columns the differences are those of the first l readings of the row
 -- that enters below and of the row that leaves above. Assumes nothing.
-use Prim.Native.Nat.{◌+◌, ◌-◌, ◌≤◌}
-use mathlib.Core.Path.{◌≡◌, ◌∙◌}
-use native.Mathlib.Omega.{arith}
+use Prim.Native.Nat.{◌-◌, ◌≤◌}
 use Rattle.memory.specs.Memory.{Changed}
-use Rattle.memory.proofs.Memory.{changed_none, changed_again}
-use Rattle.level_sums.proofs.Room.{columns_room}
-use Rattle.level_sums.proofs.Running.{run_swapped}
-use Rattle.level_sums.proofs.ColumnLaws.{row_sum, row_more, change_run, change_none}
-use borrow.Author.Rules.{rules}
+use Rattle.level_sums.proofs.ColumnLaws.{change_run}
 use Rattle.level_sums.proofs.columns.first_change.Given as goal
 
 abbrev pub invariant-loop-l : goal.invariant-loop-l

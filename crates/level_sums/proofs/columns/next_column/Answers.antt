@@ -1,13 +1,11 @@
-use Prim.Native.Nat.{◌+◌, ◌-◌, ◌≤◌}
+use Prim.Native.Nat.{◌+◌}
 use mathlib.Core.Path.{◌≡◌, ◌∙◌}
 use native.Mathlib.Omega.{arith}
-use Rattle.memory.specs.Memory.{Changed}
 use Rattle.memory.proofs.Memory.{changed_none, changed_again, changed_is}
 use Rattle.level_sums.specs.Sums.{window_sum}
 use Rattle.level_sums.proofs.Room.{accepted, columns_room, column_room, need-fits}
 use Rattle.level_sums.proofs.Running.{run_swapped}
-use Rattle.level_sums.proofs.ColumnLaws.{entering_sum, leaving_sum, entering_more, leaving_more, column_run, column_none, column_all}
-use borrow.Author.Rules.{rules}
+use Rattle.level_sums.proofs.ColumnLaws.{entering_sum, leaving_sum, entering_more, leaving_more, column_none, column_all}
 use Rattle.level_sums.proofs.columns.next_column.Goals as goal
 
 pub overflow_add-next : goal.overflow_add-next

@@ -1,15 +1,8 @@
 -- `level_sums::columns::next_column` meets its contract: after k mask rows the sums are those of column j with k readings of the column
 -- that enters added and k readings of the column that leaves taken off. Assumes nothing.
-use Prim.Native.Nat.{◌+◌, ◌-◌, ◌≤◌}
-use mathlib.Core.Path.{◌≡◌, ◌∙◌}
-use native.Mathlib.Omega.{arith}
+use Prim.Native.Nat.{◌-◌, ◌≤◌}
 use Rattle.memory.specs.Memory.{Changed}
-use Rattle.memory.proofs.Memory.{changed_none, changed_again, changed_is}
-use Rattle.level_sums.specs.Sums.{window_sum}
-use Rattle.level_sums.proofs.Room.{accepted, columns_room, column_room, need-fits}
-use Rattle.level_sums.proofs.Running.{run_swapped}
-use Rattle.level_sums.proofs.ColumnLaws.{entering_sum, leaving_sum, entering_more, leaving_more, column_run, column_none, column_all}
-use borrow.Author.Rules.{rules}
+use Rattle.level_sums.proofs.ColumnLaws.{column_run}
 use Rattle.level_sums.proofs.columns.next_column.Given as goal
 
 abbrev pub invariant-loop-k : goal.invariant-loop-k

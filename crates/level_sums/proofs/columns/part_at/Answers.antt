@@ -9,7 +9,6 @@ use Rattle.shape.proofs.Accepted.{Accepted, shape_clear, area-fits}
 use Rattle.window.specs.Window.{padded}
 use Rattle.window.proofs.Mirror.{mirror_below}
 use Rattle.window.proofs.Window.{spot_below, padded-reading}
-use borrow.Author.Rules.{rules}
 use Rattle.level_sums.proofs.columns.part_at.Goals as goal
 use Rattle.level_sums.proofs.columns.part_at.Goals.{After-mirrored-column, Start}
 

@@ -2,7 +2,6 @@
 use Prim.Native.Nat.{ℕ, ◌-◌, ◌<◌}
 use mathlib.Core.Path.{refl, ap}
 use native.Mathlib.Omega.{arith}
-use borrow.Author.Rules.{rules}
 use Rattle.cycle.proofs.SilenceLaws.{not_silent, heard-tick}
 use Rattle.level_sums.proofs.TableLaws.{part-tick, part-silent}
 use Rattle.level_sums.proofs.columns.part_of.Goals as goal

@@ -3,7 +3,6 @@ use Prim.Native.Nat.{ℕ, ◌+◌}
 use mathlib.Core.Path.{◌∙◌}
 use mathlib.Core.List.{List}
 use native.Mathlib.Omega.{arith}
-use borrow.Author.Rules.{rules}
 use Rattle.level_sums.proofs.Running.{turned_same, Pass, pass, pass_signed, pass_done}
 use Rattle.level_sums.proofs.ColumnLaws.{row_sum, window-signed, row_next}
 use Rattle.level_sums.proofs.Room.{accepted, column_room, columns_room}

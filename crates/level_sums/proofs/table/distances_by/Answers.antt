@@ -1,10 +1,9 @@
-use Prim.Native.Nat.{ℕ, ◌-◌, ◌*◌, ◌≤◌}
+use Prim.Native.Nat.{ℕ}
 use mathlib.Core.Path.{sym, ◌∙◌}
 use native.Mathlib.Omega.{arith}
-use borrow.Author.Rules.{rules}
 use lib.ListN.{length-replicate}
 use Rattle.level_sums.specs.Table.{table_length}
-use Rattle.level_sums.proofs.TableLaws.{Filling, filling-none, filling_turn, filling_all}
+use Rattle.level_sums.proofs.TableLaws.{filling-none, filling_turn, filling_all}
 use Rattle.level_sums.proofs.table.distances_by.Goals as goal
 
 pub loop-k-init : goal.loop-k-init

@@ -1,11 +1,6 @@
 -- `level_sums::table::distances_by` meets its contract. Assumes nothing.
-use Prim.Native.Nat.{ℕ, ◌-◌, ◌*◌, ◌≤◌}
-use mathlib.Core.Path.{sym, ◌∙◌}
-use native.Mathlib.Omega.{arith}
-use borrow.Author.Rules.{rules}
-use lib.ListN.{length-replicate}
-use Rattle.level_sums.specs.Table.{table_length}
-use Rattle.level_sums.proofs.TableLaws.{Filling, filling-none, filling_turn, filling_all}
+use Prim.Native.Nat.{◌-◌, ◌*◌, ◌≤◌}
+use Rattle.level_sums.proofs.TableLaws.{Filling}
 use Rattle.level_sums.proofs.table.distances_by.Given as goal
 
 abbrev pub invariant-loop-k : goal.invariant-loop-k

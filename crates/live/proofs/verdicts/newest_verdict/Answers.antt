@@ -2,7 +2,6 @@
 use mathlib.Core.Path.{◌≡◌}
 use mathlib.Core.Bool.{true, false}
 use native.Mathlib.Omega.{arith}
-use borrow.Author.Rules.{rules}
 use Rattle.refusal.specs.Outcome.{first_due}
 use Rattle.cycle.specs.Silence.{is_reading}
 use Rattle.cycle.proofs.SilenceLaws.{next-reading, next-none}

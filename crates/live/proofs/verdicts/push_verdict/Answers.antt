@@ -1,6 +1,5 @@
 -- `live::verdicts::push_verdict` meets its contract. Assumes nothing.
 use mathlib.Core.List.{[], ◌∷◌}
-use borrow.Author.Rules.{rules}
 use Rattle.refusal.proofs.Outcome.{first_of_due}
 use Rattle.live.specs.Calls.{window_rules, newest_rule}
 use Rattle.live.proofs.verdicts.push_verdict.Goals as goal

@@ -1,5 +1,4 @@
 -- `live::verdicts::window_verdict` meets its contract. Assumes nothing.
-use borrow.Author.Rules.{rules}
 use Rattle.refusal.specs.Limits.{live_cycle, live_length}
 use Rattle.refusal.proofs.Outcome.{first_of_due}
 use Rattle.cycle.specs.Calls.{cycle_rules}

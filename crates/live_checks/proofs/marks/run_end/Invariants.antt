@@ -1,6 +1,5 @@
 -- `live_checks::marks::run_end` meets its contract. Assumes nothing.
 use Prim.Native.Nat.{◌≤◌, ◌<◌, ◌-◌}
-use borrow.Author.Rules.{rules}
 use lib.ListN.{length}
 use Rattle.live_checks.proofs.marks.run_end.Given as goal
 

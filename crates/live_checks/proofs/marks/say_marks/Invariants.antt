@@ -1,6 +1,5 @@
 -- `live_checks::marks::say_marks` meets its contract. Assumes nothing.
 use Prim.Native.Nat.{◌≤◌, ◌-◌}
-use borrow.Author.Rules.{rules}
 use lib.ListN.{length}
 use Rattle.live_checks.proofs.marks.say_marks.Given as goal
 

@@ -1,6 +1,5 @@
 -- `live_checks::pushes::push_all` meets its contract. Assumes nothing.
 use Prim.Native.Nat.{◌≤◌, ◌-◌}
-use borrow.Author.Rules.{rules}
 use lib.ListN.{length}
 use Rattle.live_checks.proofs.pushes.push_all.Given as goal
 

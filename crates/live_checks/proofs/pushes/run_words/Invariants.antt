@@ -1,6 +1,5 @@
 -- `live_checks::pushes::run_words` meets its contract. Assumes nothing.
 use Prim.Native.Nat.{◌≤◌, ◌-◌}
-use borrow.Author.Rules.{rules}
 use lib.ListN.{length}
 use Rattle.live_checks.proofs.pushes.run_words.Given as goal
 

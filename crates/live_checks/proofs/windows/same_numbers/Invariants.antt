@@ -1,6 +1,5 @@
 -- `live_checks::windows::same_numbers` meets its contract. Assumes nothing.
 use Prim.Native.Nat.{◌≤◌, ◌-◌}
-use borrow.Author.Rules.{rules}
 use Rattle.live_checks.proofs.windows.same_numbers.Given as goal
 
 abbrev pub invariant-loop-k : goal.invariant-loop-k

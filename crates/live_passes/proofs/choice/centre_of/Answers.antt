@@ -1,5 +1,5 @@
 -- `live_passes::choice::centre_of` meets its contract. Assumes nothing.
-use Rattle.std.proofs.Common.{get_or, take, sym, ◌∙◌, rules}
+use Rattle.std.proofs.Common.{get_or, take, sym, ◌∙◌}
 use Rattle.cycle.proofs.SilenceLaws.{not_silent, first-heard, first-behind}
 use Rattle.shape.specs.Rules.{reach}
 use Rattle.live_passes.proofs.choice.centre_of.Goals as goal

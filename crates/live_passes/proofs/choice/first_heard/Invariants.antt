@@ -1,7 +1,6 @@
 -- `live_passes::choice::first_heard` meets its contract. Assumes nothing.
-use Rattle.std.proofs.Common.{◌≡◌, ℕ, ◌+◌, ◌-◌, ◌<◌, ◌≤◌, true, List, [], length, get_or, take, drop, sym, ap, ◌∙◌, add-one, arith, take-suc, take-add, rules}
-use Rattle.cycle.specs.Silence.{silent, is_heard, first_heard}
-use Rattle.cycle.proofs.SilenceLaws.{not_silent, heard-none, first-silent, first_stays, first_next}
+use Rattle.std.proofs.Common.{◌≡◌, ◌-◌, ◌≤◌, take}
+use Rattle.cycle.specs.Silence.{silent, first_heard}
 use Rattle.live_passes.proofs.choice.first_heard.Given as goal
 
 abbrev pub invariant-loop-k : goal.invariant-loop-k

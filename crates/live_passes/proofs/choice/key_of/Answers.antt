@@ -1,5 +1,5 @@
 -- `live_passes::choice::key_of` meets its contract. Assumes nothing.
-use Rattle.std.proofs.Common.{◌∙◌, rules}
+use Rattle.std.proofs.Common.{◌∙◌}
 use Rattle.live_passes.specs.Passes.{key_of}
 use Rattle.live_passes.proofs.choice.key_of.Goals as goal
 

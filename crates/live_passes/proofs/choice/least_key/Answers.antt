@@ -1,5 +1,4 @@
-use Rattle.std.proofs.Common.{◌≡◌, ◌-◌, ◌≤◌, get_or, sym, arith, rules}
-use Rattle.memory.specs.Memory.{lowest}
+use Rattle.std.proofs.Common.{◌≡◌, get_or, sym, arith, rules}
 use Rattle.memory.proofs.Lowest.{lowest-none, lowest_turn, lowest-signed}
 use Rattle.live_passes.specs.Passes.{key_at}
 use Rattle.live_passes.proofs.Passes.{key-signed}

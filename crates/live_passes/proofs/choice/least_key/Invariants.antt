@@ -1,9 +1,7 @@
 -- `live_passes::choice::least_key` meets its contract. Assumes nothing.
-use Rattle.std.proofs.Common.{◌≡◌, ◌-◌, ◌≤◌, get_or, sym, arith, rules}
+use Rattle.std.proofs.Common.{◌≡◌, ◌-◌, ◌≤◌}
 use Rattle.memory.specs.Memory.{lowest}
-use Rattle.memory.proofs.Lowest.{lowest-none, lowest_turn, lowest-signed}
 use Rattle.live_passes.specs.Passes.{key_at}
-use Rattle.live_passes.proofs.Passes.{key-signed}
 use Rattle.live_passes.proofs.choice.least_key.Given as goal
 
 abbrev pub invariant-loop-k : goal.invariant-loop-k

@@ -1,5 +1,5 @@
 -- `live_passes::choice::phase_in` meets its contract. Assumes nothing.
-use Rattle.std.proofs.Common.{arith, rules}
+use Rattle.std.proofs.Common.{arith}
 use Rattle.live_passes.proofs.Passes.{reading_of, phase_by_steps}
 use Rattle.live_passes.proofs.choice.phase_in.Goals as goal
 

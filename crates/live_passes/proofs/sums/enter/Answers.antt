@@ -1,5 +1,5 @@
 -- `live_passes::sums::enter` meets its contract. Assumes nothing.
-use Rattle.std.proofs.Common.{refl, rules}
+use Rattle.std.proofs.Common.{refl}
 use Rattle.live_passes.proofs.Passes.{changed_last}
 use Rattle.live_passes.proofs.sums.enter.Goals as goal
 

@@ -1,7 +1,6 @@
-use Rattle.std.proofs.Common.{◌≡◌, ◌+◌, ◌-◌, ◌%◌, ◌^◌, ◌≤◌, get_or, refl, ◌∙◌, arith, rules}
-use Rattle.memory.specs.Memory.{Changed}
+use Rattle.std.proofs.Common.{◌≡◌, ◌+◌, ◌%◌, ◌^◌, get_or, refl, ◌∙◌, arith, rules}
 use Rattle.memory.proofs.Memory.{changed_start, changed_turn_first, changed_done}
-use Rattle.live_passes.specs.Passes.{behind, distance_to, slid, distances_to}
+use Rattle.live_passes.specs.Passes.{behind, distance_to}
 use Rattle.live_passes.proofs.Passes.{distances_none, distances_more, slid_by}
 use Rattle.live_passes.proofs.sums.slide_by.Goals as goal
 use Rattle.live_passes.proofs.sums.slide_by.Goals.{After-apart_by, After-apart_by-gain, After-wrapping_add_u16-more, At-loop-k}

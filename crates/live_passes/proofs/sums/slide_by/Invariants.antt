@@ -1,9 +1,7 @@
 -- `live_passes::sums::slide_by` meets its contract: at each turn the reading behind the turn's place and its sum are still those that were lent. Assumes nothing.
-use Rattle.std.proofs.Common.{◌≡◌, ◌+◌, ◌-◌, ◌%◌, ◌^◌, ◌≤◌, get_or, refl, ◌∙◌, arith, rules}
+use Rattle.std.proofs.Common.{◌≡◌, ◌-◌, ◌≤◌, get_or}
 use Rattle.memory.specs.Memory.{Changed}
-use Rattle.memory.proofs.Memory.{changed_start, changed_turn_first, changed_done}
-use Rattle.live_passes.specs.Passes.{behind, distance_to, slid, distances_to}
-use Rattle.live_passes.proofs.Passes.{distances_none, distances_more, slid_by}
+use Rattle.live_passes.specs.Passes.{behind, slid, distances_to}
 use Rattle.live_passes.proofs.sums.slide_by.Given as goal
 
 abbrev pub invariant-loop-k : goal.invariant-loop-k

@@ -1,6 +1,5 @@
 -- `live_runs::rows::equals` meets its contract. Assumes nothing.
 use Prim.Native.Nat.{◌≤◌, ◌-◌}
-use borrow.Author.Rules.{rules}
 use Rattle.live_runs.proofs.rows.equals.Given as goal
 
 abbrev pub invariant-loop-k : goal.invariant-loop-k

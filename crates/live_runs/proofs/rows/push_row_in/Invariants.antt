@@ -1,7 +1,6 @@
 -- `live_runs::rows::push_row_in` meets its contract. Assumes nothing.
 use Prim.Native.Nat.{◌≤◌, ◌-◌}
 use mathlib.Core.Path.{◌≡◌}
-use borrow.Author.Rules.{rules}
 use lib.ListN.{length}
 use Rattle.live_runs.proofs.rows.push_row_in.Given as goal
 

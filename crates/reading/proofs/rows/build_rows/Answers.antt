@@ -1,12 +1,9 @@
-use Prim.Native.Nat.{◌-◌, ◌≤◌}
 use mathlib.Core.Path.{◌≡◌, sym, ◌∙◌}
 use native.Mathlib.Omega.{arith}
-use borrow.Author.Rules.{rules}
 use Rattle.memory.proofs.Memory.{outside-none}
-use Rattle.lines.specs.Lines.{IsLine}
 use Rattle.lines.proofs.Given.{given_kept}
 use Rattle.reading_planes.proofs.Sums.{sizes}
-use Rattle.reading.proofs.Kept.{MaskRows, mask_rows_next}
+use Rattle.reading.proofs.Kept.{mask_rows_next}
 use Rattle.reading.proofs.rows.build_rows.Goals as goal
 
 pub loop-k-init : goal.loop-k-init

@@ -1,13 +1,7 @@
 -- `reading::rows::build_rows` meets its contract: mask row after mask row has the sums of row i, and is weighed. Assumes nothing.
 use Prim.Native.Nat.{◌-◌, ◌≤◌}
-use mathlib.Core.Path.{◌≡◌, sym, ◌∙◌}
-use native.Mathlib.Omega.{arith}
-use borrow.Author.Rules.{rules}
-use Rattle.memory.proofs.Memory.{outside-none}
 use Rattle.lines.specs.Lines.{IsLine}
-use Rattle.lines.proofs.Given.{given_kept}
-use Rattle.reading_planes.proofs.Sums.{sizes}
-use Rattle.reading.proofs.Kept.{MaskRows, mask_rows_next}
+use Rattle.reading.proofs.Kept.{MaskRows}
 use Rattle.reading.proofs.rows.build_rows.Given as goal
 
 abbrev pub invariant-loop-k : goal.invariant-loop-k

@@ -1,11 +1,10 @@
-use Prim.Native.Nat.{◌+◌, ◌-◌, ◌≤◌}
+use Prim.Native.Nat.{◌+◌}
 use mathlib.Core.Path.{◌≡◌, sym, ◌∙◌}
 use native.Mathlib.Omega.{arith}
 use Rattle.memory.proofs.Memory.{outside-none}
 use Rattle.lines.proofs.Given.{given_kept}
-use Rattle.reading_planes.specs.Sums.{MaskSums}
 use Rattle.reading_planes.proofs.Sums.{sizes}
-use Rattle.reading.proofs.Kept.{MaskRows, mask_rows_next, sums_left}
+use Rattle.reading.proofs.Kept.{mask_rows_next, sums_left}
 use Rattle.reading.proofs.rows.carry_rows.Goals as goal
 
 pub returns-then-kept-eq0 : goal.returns-then-kept-eq0

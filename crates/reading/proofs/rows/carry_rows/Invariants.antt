@@ -1,13 +1,8 @@
 -- `reading::rows::carry_rows` meets its contract: mask row after mask row has the sums of row i, and the others still those of the row
 -- before it. Assumes nothing.
 use Prim.Native.Nat.{◌+◌, ◌-◌, ◌≤◌}
-use mathlib.Core.Path.{◌≡◌, sym, ◌∙◌}
-use native.Mathlib.Omega.{arith}
-use Rattle.memory.proofs.Memory.{outside-none}
-use Rattle.lines.proofs.Given.{given_kept}
 use Rattle.reading_planes.specs.Sums.{MaskSums}
-use Rattle.reading_planes.proofs.Sums.{sizes}
-use Rattle.reading.proofs.Kept.{MaskRows, mask_rows_next, sums_left}
+use Rattle.reading.proofs.Kept.{MaskRows}
 use Rattle.reading.proofs.rows.carry_rows.Given as goal
 
 abbrev pub invariant-loop-k : goal.invariant-loop-k

@@ -2,7 +2,6 @@
 -- tell the phases. Assumes nothing.
 use mathlib.Core.Path.{refl, sym, ◌∙◌}
 use native.Mathlib.Omega.{arith}
-use borrow.Author.Rules.{rules}
 use Rattle.refusal.specs.Limits.{longest_cycle}
 use Rattle.shape.proofs.Accepted.{Accepted}
 use Rattle.memory.proofs.Memory.{outside_more}

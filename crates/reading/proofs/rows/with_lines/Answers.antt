@@ -1,6 +1,5 @@
 -- `reading::rows::with_lines` meets its contract. Assumes nothing.
 use Prim.Native.Nat.{ℕ}
-use borrow.Author.Rules.{rules}
 use lib.ListN.{replicate, length-replicate}
 use Rattle.lines.specs.Lines.{IsLine, line_length}
 use Rattle.reading.proofs.rows.with_lines.Goals as goal

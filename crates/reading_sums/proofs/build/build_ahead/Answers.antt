@@ -1,14 +1,11 @@
 use Prim.Native.Nat.{◌+◌, ◌-◌, ◌*◌, ◌≤◌}
 use mathlib.Core.Path.{◌≡◌, ◌∙◌}
 use native.Mathlib.Omega.{arith}
-use borrow.Author.Rules.{rules}
 use lib.ListN.{get_or}
-use Rattle.lines.specs.Lines.{IsLine}
-use Rattle.reading_lines.specs.Passes.{marks}
 use Rattle.reading_lines.proofs.Marks.{mark-small}
-use Rattle.reading_planes.specs.Planes.{of_rows, none, marked, planes}
+use Rattle.reading_planes.specs.Planes.{planes}
 use Rattle.reading_planes.proofs.Sums.{plane_within, line_room, planes_fit}
-use Rattle.reading_sums.proofs.SweepAhead.{SweepAhead, sweep_none, sweep_more, sweep_all}
+use Rattle.reading_sums.proofs.SweepAhead.{sweep_none, sweep_more, sweep_all}
 use Rattle.reading_sums.proofs.build.build_ahead.Goals as goal
 use Rattle.reading_sums.proofs.build.build_ahead.Goals.{In-loop-m}
 

@@ -1,16 +1,10 @@
 -- `reading_sums::build::build_ahead` meets its contract: each turn counts one column more of every row, and the plane of the turn is put there
 -- from the changes. Assumes nothing.
-use Prim.Native.Nat.{◌+◌, ◌-◌, ◌*◌, ◌≤◌}
-use mathlib.Core.Path.{◌≡◌, ◌∙◌}
-use native.Mathlib.Omega.{arith}
-use borrow.Author.Rules.{rules}
-use lib.ListN.{get_or}
+use Prim.Native.Nat.{◌-◌}
 use Rattle.lines.specs.Lines.{IsLine}
 use Rattle.reading_lines.specs.Passes.{marks}
-use Rattle.reading_lines.proofs.Marks.{mark-small}
-use Rattle.reading_planes.specs.Planes.{of_rows, none, marked, planes}
-use Rattle.reading_planes.proofs.Sums.{plane_within, line_room, planes_fit}
-use Rattle.reading_sums.proofs.SweepAhead.{SweepAhead, sweep_none, sweep_more, sweep_all}
+use Rattle.reading_planes.specs.Planes.{of_rows, none, marked}
+use Rattle.reading_sums.proofs.SweepAhead.{SweepAhead}
 use Rattle.reading_sums.proofs.build.build_ahead.Given as goal
 
 abbrev pub invariant-loop-m : goal.invariant-loop-m

@@ -1,15 +1,14 @@
-use Prim.Native.Nat.{ℕ, ◌+◌, ◌-◌, ◌%◌, ◌≤◌, ◌<◌}
+use Prim.Native.Nat.{ℕ, ◌+◌, ◌-◌, ◌≤◌}
 use mathlib.Core.Path.{◌≡◌, refl, sym, ◌∙◌}
 use mathlib.Core.List.{List}
 use native.Mathlib.Omega.{arith}
-use borrow.Author.Rules.{rules}
 use Rattle.refusal.specs.Limits.{longest_cycle}
 use Rattle.shape.proofs.Accepted.{Accepted}
-use Rattle.lines.specs.Lines.{IsLine, Reads, line_length, padded_length}
+use Rattle.lines.specs.Lines.{Reads, line_length, padded_length}
 use Rattle.reading_lines.specs.Passes.{Measurable}
 use Rattle.reading_planes.proofs.Sums.{sizes, line_room}
 use Rattle.reading_sums.proofs.Measured.{short_plain, measurable}
-use Rattle.reading_sums.proofs.Turns.{Rows, rows_none, rows_one, rows_two, rows_counted}
+use Rattle.reading_sums.proofs.Turns.{rows_none, rows_one, rows_two, rows_counted}
 use Rattle.reading_sums.proofs.build.count_rows.Goals as goal
 use Rattle.reading_sums.proofs.build.count_rows.Goals.{At-loop-k, Start}
 

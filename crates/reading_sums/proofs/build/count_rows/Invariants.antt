@@ -1,17 +1,9 @@
 -- `reading_sums::build::count_rows` meets its contract: after k rows, an even number of them, the changes count those k; the last row,
 -- which the loop leaves over, is the one lent as `last`. Assumes nothing.
-use Prim.Native.Nat.{ℕ, ◌+◌, ◌-◌, ◌%◌, ◌≤◌, ◌<◌}
-use mathlib.Core.Path.{◌≡◌, refl, sym, ◌∙◌}
-use mathlib.Core.List.{List}
-use native.Mathlib.Omega.{arith}
-use borrow.Author.Rules.{rules}
-use Rattle.refusal.specs.Limits.{longest_cycle}
-use Rattle.shape.proofs.Accepted.{Accepted}
-use Rattle.lines.specs.Lines.{IsLine, Reads, line_length, padded_length}
-use Rattle.reading_lines.specs.Passes.{Measurable}
-use Rattle.reading_planes.proofs.Sums.{sizes, line_room}
-use Rattle.reading_sums.proofs.Measured.{short_plain, measurable}
-use Rattle.reading_sums.proofs.Turns.{Rows, rows_none, rows_one, rows_two, rows_counted}
+use Prim.Native.Nat.{◌-◌, ◌%◌, ◌<◌}
+use mathlib.Core.Path.{◌≡◌}
+use Rattle.lines.specs.Lines.{IsLine}
+use Rattle.reading_sums.proofs.Turns.{Rows}
 use Rattle.reading_sums.proofs.build.count_rows.Given as goal
 
 abbrev pub invariant-loop-k : goal.invariant-loop-k

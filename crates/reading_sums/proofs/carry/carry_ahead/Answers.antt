@@ -3,15 +3,13 @@ use mathlib.Core.Path.{◌≡◌, ◌∙◌}
 use mathlib.Core.Bool.{true}
 use mathlib.Core.List.{List}
 use native.Mathlib.Omega.{arith}
-use borrow.Author.Rules.{rules}
-use Rattle.memory.specs.Parts.{zeros}
-use Rattle.lines.specs.Lines.{IsLine, Reads}
-use Rattle.reading_lines.specs.Passes.{Measurable, of_line}
+use Rattle.lines.specs.Lines.{Reads}
+use Rattle.reading_lines.specs.Passes.{Measurable}
 use Rattle.reading_planes.specs.Planes.{held, planes}
 use Rattle.reading_planes.proofs.Sums.{plane_within, sizes, line_room, planes_fit}
 use Rattle.reading_sums.specs.CarryLines.{Plain}
 use Rattle.reading_sums.proofs.Measured.{measurable}
-use Rattle.reading_sums.proofs.SweepAhead.{SweepAhead, sweep_none, sweep_held, sweep_more, sweep_all}
+use Rattle.reading_sums.proofs.SweepAhead.{sweep_none, sweep_held, sweep_more, sweep_all}
 use Rattle.reading_sums.proofs.Turns.{counted-steps}
 use Rattle.reading_sums.proofs.carry.carry_ahead.Goals as goal
 use Rattle.reading_sums.proofs.carry.carry_ahead.Goals.{In-loop-m}

@@ -1,20 +1,11 @@
 -- `reading_sums::carry::carry_ahead` meets its contract: each turn moves the changes on by one column, and the plane of the turn has what
 -- they then count added. Assumes nothing.
-use Prim.Native.Nat.{ℕ, ◌+◌, ◌-◌, ◌*◌, ◌≤◌}
-use mathlib.Core.Path.{◌≡◌, ◌∙◌}
-use mathlib.Core.Bool.{true}
-use mathlib.Core.List.{List}
-use native.Mathlib.Omega.{arith}
-use borrow.Author.Rules.{rules}
+use Prim.Native.Nat.{◌-◌}
 use Rattle.memory.specs.Parts.{zeros}
-use Rattle.lines.specs.Lines.{IsLine, Reads}
-use Rattle.reading_lines.specs.Passes.{Measurable, of_line}
-use Rattle.reading_planes.specs.Planes.{held, planes}
-use Rattle.reading_planes.proofs.Sums.{plane_within, sizes, line_room, planes_fit}
-use Rattle.reading_sums.specs.CarryLines.{Plain}
-use Rattle.reading_sums.proofs.Measured.{measurable}
-use Rattle.reading_sums.proofs.SweepAhead.{SweepAhead, sweep_none, sweep_held, sweep_more, sweep_all}
-use Rattle.reading_sums.proofs.Turns.{counted-steps}
+use Rattle.lines.specs.Lines.{IsLine}
+use Rattle.reading_lines.specs.Passes.{of_line}
+use Rattle.reading_planes.specs.Planes.{held}
+use Rattle.reading_sums.proofs.SweepAhead.{SweepAhead}
 use Rattle.reading_sums.proofs.carry.carry_ahead.Given as goal
 
 abbrev pub invariant-loop-m : goal.invariant-loop-m

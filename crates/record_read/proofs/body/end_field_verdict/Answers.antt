@@ -1,6 +1,5 @@
 -- `record_read::body::end_field_verdict` meets its contract. Assumes nothing.
 use mathlib.Core.List.{List, [], ◌∷◌}
-use borrow.Author.Rules.{rules}
 use Rattle.refusal.specs.Outcome.{Rule}
 use Rattle.refusal.proofs.Outcome.{first_of_due}
 use Rattle.record_format.specs.Layout.{body_of}

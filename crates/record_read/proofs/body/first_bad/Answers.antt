@@ -1,10 +1,8 @@
-use Prim.Native.Nat.{ℕ, ◌+◌, ◌-◌, ◌≤◌}
+use Prim.Native.Nat.{ℕ}
 use mathlib.Core.Path.{◌≡◌, sym, ◌∙◌}
 use mathlib.Core.List.{List}
 use native.Mathlib.Omega.{arith}
-use borrow.Author.Rules.{rules}
-use lib.ListN.{length, get_or, drop}
-use Rattle.lists.specs.First.{first_bad}
+use lib.ListN.{length, get_or}
 use Rattle.lists.proofs.First.{first_here, first_later, first-none}
 use Rattle.cycle.specs.Silence.{is_reading}
 use Rattle.cycle.proofs.SilenceLaws.{next-reading, next-none}

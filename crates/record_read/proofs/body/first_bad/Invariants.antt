@@ -1,16 +1,10 @@
 -- `record_read::body::first_bad` meets its contract. Assumes nothing.
-use Prim.Native.Nat.{ℕ, ◌+◌, ◌-◌, ◌≤◌}
-use mathlib.Core.Path.{◌≡◌, sym, ◌∙◌}
-use mathlib.Core.List.{List}
-use native.Mathlib.Omega.{arith}
-use borrow.Author.Rules.{rules}
-use lib.ListN.{length, get_or, drop}
+use Prim.Native.Nat.{◌+◌, ◌-◌, ◌≤◌}
+use mathlib.Core.Path.{◌≡◌}
+use lib.ListN.{drop}
 use Rattle.lists.specs.First.{first_bad}
-use Rattle.lists.proofs.First.{first_here, first_later, first-none}
 use Rattle.cycle.specs.Silence.{is_reading}
-use Rattle.cycle.proofs.SilenceLaws.{next-reading, next-none}
 use Rattle.record_format.specs.Fields.{numbers_at}
-use Rattle.record_format.proofs.FieldRead.{length-numbers_at, get_or-numbers_at}
 use Rattle.record_read.proofs.body.first_bad.Given as goal
 
 abbrev pub invariant-loop-k : goal.invariant-loop-k

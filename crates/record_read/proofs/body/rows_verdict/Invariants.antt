@@ -1,20 +1,11 @@
 -- `record_read::body::rows_verdict` meets its contract. It goes row by row: the tests of all rows come out as those from row i on, which begin with
 -- the tests of row i (`first`). Assumes nothing.
-use Prim.Native.Nat.{◌+◌, ◌-◌, ◌≤◌}
-use mathlib.Core.Path.{◌≡◌, sym, ap, ◌∙◌}
-use mathlib.Core.List.{List, ◌++◌}
-use native.Mathlib.Nat.{sub-zero}
-use native.Mathlib.Omega.{arith}
-use borrow.Author.Rules.{rules}
+use Prim.Native.Nat.{◌-◌, ◌≤◌}
+use mathlib.Core.Path.{◌≡◌}
 use lib.ListN.{length}
 use Rattle.lists.specs.Joined.{joined}
-use Rattle.lists.proofs.Joined.{joined-first, joined-none}
-use Rattle.shape.specs.declared.Shape.{Shape}
-use Rattle.refusal.specs.Outcome.{Rule, first_due}
-use Rattle.refusal.proofs.Outcome.{passed_clear, passed_on, refused-before}
-use Rattle.record_format.specs.Reading.{rows_in, columns_in, row_at, row_field_rules}
-use Rattle.record_format.proofs.Readable.{RowIn, row_clear, row_next}
-use Rattle.record_read.specs.Stages.{Headed}
+use Rattle.refusal.specs.Outcome.{first_due}
+use Rattle.record_format.specs.Reading.{rows_in, row_at, row_field_rules}
 use Rattle.record_read.proofs.body.rows_verdict.Given as goal
 
 abbrev pub invariant-loop-i : goal.invariant-loop-i

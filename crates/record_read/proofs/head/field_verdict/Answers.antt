@@ -1,6 +1,5 @@
 -- `record_read::head::field_verdict` meets its contract. Assumes nothing.
 use mathlib.Core.Path.{sym}
-use borrow.Author.Rules.{rules}
 use Rattle.refusal.specs.Outcome.{first_due}
 use Rattle.refusal.proofs.Outcome.{tests}
 use Rattle.record_read.proofs.head.field_verdict.Goals as goal

@@ -1,7 +1,6 @@
 -- `record_read::head::head_answer` meets its contract. Assumes nothing.
 use mathlib.Core.Path.{◌≡◌, sym, ap, ◌∙◌}
 use mathlib.Core.List.{◌++◌}
-use borrow.Author.Rules.{rules}
 use Rattle.refusal.specs.Outcome.{first_due, verdict}
 use Rattle.refusal.specs.Outcome.Outcome.{accepted}
 use Rattle.refusal.proofs.Outcome.{passed_clear, passed_on, refused-before, refused_alone, clear_accepted}

@@ -2,7 +2,6 @@
 use mathlib.Core.Path.{◌≡◌, sym, ◌∙◌}
 use mathlib.Core.List.{◌++◌}
 use native.Mathlib.Omega.{arith}
-use borrow.Author.Rules.{rules}
 use Rattle.refusal.specs.Outcome.{first_due}
 use Rattle.refusal.proofs.Outcome.{passed_clear, passed_on, refused-before}
 use Rattle.record_format.specs.Layout.{mask_field_at}

@@ -1,6 +1,5 @@
 -- `record_read::head::mask_due` meets its contract. Assumes nothing.
 use mathlib.Core.Path.{sym, ◌∙◌}
-use borrow.Author.Rules.{rules}
 use Rattle.record_format.proofs.FieldRead.{due_empty, due-given}
 use Rattle.record_read.proofs.head.mask_due.Goals as goal
 

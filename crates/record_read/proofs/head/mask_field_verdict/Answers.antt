@@ -1,5 +1,4 @@
 -- `record_read::head::mask_field_verdict` meets its contract. Assumes nothing.
-use borrow.Author.Rules.{rules}
 use Rattle.refusal.specs.Outcome.{first_due}
 use Rattle.refusal.proofs.Outcome.{tests}
 use Rattle.record_read.proofs.head.mask_field_verdict.Goals as goal

@@ -1,7 +1,6 @@
 -- `record_read::head::mask_side` meets its contract. Assumes nothing.
 use mathlib.Core.Path.{◌≡◌, sym, ◌∙◌}
 use native.Mathlib.Omega.{arith}
-use borrow.Author.Rules.{rules}
 use Rattle.record_format.specs.Reading.{mask_said}
 use Rattle.record_format.proofs.FieldRead.{due_empty, due-given, none-due, side_empty, side_given}
 use Rattle.record_read.proofs.head.mask_side.Goals as goal

@@ -2,7 +2,6 @@
 use Prim.Native.Nat.{ℕ}
 use mathlib.Core.Path.{ap, ◌∙◌}
 use mathlib.Core.List.{List, [], ◌∷◌}
-use borrow.Author.Rules.{rules}
 use Rattle.refusal.specs.Outcome.{Rule, first_due}
 use Rattle.refusal.proofs.Outcome.{first_of_due}
 use Rattle.shape.specs.Rules.{mask_rules, area, buffer_rule}

@@ -2,7 +2,6 @@
 use Prim.Native.Nat.{ℕ}
 use mathlib.Core.Path.{◌≡◌}
 use mathlib.Core.List.{List}
-use borrow.Author.Rules.{rules}
 use Rattle.shape.specs.declared.Shape.{Shape}
 use Rattle.record_format.specs.Reading.{cycle_in, rows_in, columns_in, mask_rows_in, mask_columns_in, shape_in}
 use Rattle.record_read.proofs.head.shape_in.Goals as goal

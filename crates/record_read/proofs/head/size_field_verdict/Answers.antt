@@ -2,7 +2,6 @@
 use mathlib.Core.Path.{sym, ◌∙◌}
 use mathlib.Core.List.{List}
 use native.Mathlib.Omega.{arith}
-use borrow.Author.Rules.{rules}
 use Rattle.refusal.specs.Outcome.{Rule}
 use Rattle.refusal.proofs.Outcome.{passed_on, refused-before}
 use Rattle.record_format.specs.Layout.{size_field_at, numbers_length}

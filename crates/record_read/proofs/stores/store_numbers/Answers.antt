@@ -1,9 +1,8 @@
-use Prim.Native.Nat.{◌+◌, ◌-◌, ◌≤◌}
+use Prim.Native.Nat.{◌+◌}
 use mathlib.Core.Path.{◌≡◌}
 use mathlib.Core.List.{[], ◌∷◌}
 use native.Mathlib.Omega.{arith}
-use borrow.Author.Rules.{rules}
-use Rattle.lists.proofs.Stores.{Stored, stored_none, stored_more}
+use Rattle.lists.proofs.Stores.{stored_none, stored_more}
 use Rattle.record_format.specs.Layout.{numbers_length}
 use Rattle.record_format.specs.Fields.{number_at, numbers_at}
 use Rattle.record_format.proofs.FieldRead.{length-numbers_at, numbers_at_last}

@@ -1,13 +1,7 @@
 -- `record_read::stores::store_numbers` meets its contract. Assumes nothing.
-use Prim.Native.Nat.{◌+◌, ◌-◌, ◌≤◌}
-use mathlib.Core.Path.{◌≡◌}
-use mathlib.Core.List.{[], ◌∷◌}
-use native.Mathlib.Omega.{arith}
-use borrow.Author.Rules.{rules}
-use Rattle.lists.proofs.Stores.{Stored, stored_none, stored_more}
-use Rattle.record_format.specs.Layout.{numbers_length}
-use Rattle.record_format.specs.Fields.{number_at, numbers_at}
-use Rattle.record_format.proofs.FieldRead.{length-numbers_at, numbers_at_last}
+use Prim.Native.Nat.{◌-◌, ◌≤◌}
+use Rattle.lists.proofs.Stores.{Stored}
+use Rattle.record_format.specs.Fields.{numbers_at}
 use Rattle.record_read.proofs.stores.store_numbers.Given as goal
 
 abbrev pub invariant-loop-k : goal.invariant-loop-k

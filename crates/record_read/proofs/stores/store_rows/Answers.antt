@@ -1,11 +1,10 @@
-use Prim.Native.Nat.{ℕ, ◌+◌, ◌*◌, ◌-◌, ◌≤◌, ◌<◌}
+use Prim.Native.Nat.{ℕ, ◌+◌, ◌*◌, ◌≤◌, ◌<◌}
 use mathlib.Core.Path.{◌≡◌, ap, ◌∙◌}
 use native.Mathlib.Omega.{arith}
-use borrow.Author.Rules.{rules}
 use lib.ListN.{length}
 use Rattle.lists.specs.Joined.{joined}
 use Rattle.lists.proofs.Joined.{joined_more, length-joined}
-use Rattle.lists.proofs.Stores.{Stored, stored_none, stored_more}
+use Rattle.lists.proofs.Stores.{stored_none, stored_more}
 use Rattle.lists.proofs.Parts.{part_end}
 use Rattle.shape.specs.declared.Shape.{Shape}
 use Rattle.record_format.specs.Layout.{body_of, numbers_length}

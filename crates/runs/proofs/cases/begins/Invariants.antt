@@ -1,7 +1,6 @@
 -- `runs::cases::begins` meets its contract. Assumes nothing.
 use Prim.Native.Nat.{◌≤◌, ◌-◌}
 use lib.ListN.{length}
-use borrow.Author.Rules.{rules}
 use Rattle.runs.proofs.cases.begins.Given as goal
 
 abbrev pub invariant-loop-i : goal.invariant-loop-i

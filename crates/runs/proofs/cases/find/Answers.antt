@@ -1,6 +1,4 @@
-use Prim.Native.Nat.{◌≤◌, ◌-◌}
 use Rattle.runs.proofs.CountLaws.{counted}
-use lib.ListN.{length}
 use borrow.Author.Rules.{rules}
 use Rattle.runs.proofs.cases.find.Goals as goal
 

@@ -1,8 +1,6 @@
 -- `runs::cases::find` meets its contract. Assumes nothing.
 use Prim.Native.Nat.{◌≤◌, ◌-◌}
-use Rattle.runs.proofs.CountLaws.{counted}
 use lib.ListN.{length}
-use borrow.Author.Rules.{rules}
 use Rattle.runs.proofs.cases.find.Given as goal
 
 abbrev pub invariant-loop-i : goal.invariant-loop-i

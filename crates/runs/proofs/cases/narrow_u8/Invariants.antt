@@ -1,10 +1,7 @@
 -- `runs::cases::narrow_u8` meets its contract. Assumes nothing.
 use Prim.Native.Nat.{◌≤◌, ◌-◌}
 use mathlib.Core.Path.{◌≡◌}
-use native.Mathlib.Omega.{arith}
-use Rattle.runs.proofs.CountLaws.{counted}
-use lib.ListN.{length, length-set}
-use borrow.Author.Rules.{rules}
+use lib.ListN.{length}
 use Rattle.runs.proofs.cases.narrow_u8.Given as goal
 
 abbrev pub invariant-loop-i : goal.invariant-loop-i

@@ -1,7 +1,4 @@
-use Prim.Native.Nat.{◌≤◌, ◌-◌}
-use mathlib.Core.Path.{◌≡◌}
 use Rattle.runs.proofs.CountLaws.{counted}
-use lib.ListN.{length}
 use borrow.Author.Rules.{rules}
 use Rattle.runs.proofs.cases.numbers_of.Goals as goal
 

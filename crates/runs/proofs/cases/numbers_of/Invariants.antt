@@ -1,9 +1,7 @@
 -- `runs::cases::numbers_of` meets its contract. Assumes nothing.
 use Prim.Native.Nat.{◌≤◌, ◌-◌}
 use mathlib.Core.Path.{◌≡◌}
-use Rattle.runs.proofs.CountLaws.{counted}
 use lib.ListN.{length}
-use borrow.Author.Rules.{rules}
 use Rattle.runs.proofs.cases.numbers_of.Given as goal
 
 abbrev pub invariant-loop-i : goal.invariant-loop-i

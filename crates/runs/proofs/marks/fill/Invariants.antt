@@ -1,9 +1,7 @@
 -- `runs::marks::fill` meets its contract. Assumes nothing.
 use Prim.Native.Nat.{◌≤◌, ◌-◌}
 use mathlib.Core.Path.{◌≡◌}
-use native.Mathlib.Omega.{arith}
-use lib.ListN.{length, length-set}
-use borrow.Author.Rules.{rules}
+use lib.ListN.{length}
 use Rattle.runs.proofs.marks.fill.Given as goal
 
 abbrev pub invariant-loop-i : goal.invariant-loop-i

@@ -1,6 +1,5 @@
 -- `runs::marks::mark_end_u8` meets its contract. Assumes nothing.
 use Prim.Native.Nat.{◌≤◌, ◌-◌}
-use borrow.Author.Rules.{rules}
 use lib.ListN.{length}
 use Rattle.runs.proofs.marks.mark_end_u8.Given as goal
 

@@ -1,6 +1,5 @@
 -- `runs::print::say_bytes` meets its contract. Assumes nothing.
 use Prim.Native.Nat.{◌≤◌, ◌-◌}
-use borrow.Author.Rules.{rules}
 use lib.ListN.{length}
 use Rattle.runs.proofs.print.say_bytes.Given as goal
 
