@@ -2,7 +2,7 @@
 // with phases that another program found by direct sums.
 //
 // Standard input holds one case after the other: C, M, N, R, T, the first row and the end row, then the
-// M.N readings, then the phases of the rows from the first up to the end. Each number has two bytes, the
+// M·N readings, then the phases of the rows from the first up to the end. Each number has two bytes, the
 // high byte first. Before a call all of the output and of the work memory is garbage, which depends on
 // the place and on the call. After it the rows of the range must hold the phases, the needed work
 // numbers must be 0, and every other number must be its garbage still; so must all of them where the

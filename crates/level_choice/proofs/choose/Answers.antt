@@ -19,7 +19,10 @@ returns-then-tally-eq1 c =
 
 pub walk-requires : goal.walk-requires
 walk-requires c =
-    record { cycle_in_bounds = c.requires.cycle_in_bounds; start_le_end = (omega arith, omega arith, c.walk-met.ensures.passed (omega arith)) }
+    record {
+      cycle_in_bounds = c.requires.cycle_in_bounds;
+      start_le_end = (omega arith, omega arith, c.walk-met.ensures.passed (omega arith));
+    }
 
 pub returns : goal.returns
 returns c =

@@ -28,7 +28,10 @@ pub overflow_mul-i : goal.overflow_mul-i
 overflow_mul-i c = omega (arith, inside (goal.at.overflow_mul-i c).Start)
 
 pub copy_line-requires : goal.copy_line-requires
-copy_line-requires c = ((inside (goal.at.copy_line-requires c).Start).0, omega (arith, (sizes (goal.at.copy_line-requires c).Start).columns_fit, c.requires.2))
+copy_line-requires c = (
+  (inside (goal.at.copy_line-requires c).Start).0,
+  omega (arith, (sizes (goal.at.copy_line-requires c).Start).columns_fit, c.requires.2),
+)
 
 pub next_row-k-requires : goal.next_row-k-requires
 next_row-k-requires c =

@@ -62,8 +62,11 @@ lower-least-requires c =
 pub loop-q-preserved : goal.loop-q-preserved
 loop-q-preserved c =
     let l = c.loop-q in
-    let sum = summed-here (goal.at.loop-q-preserved c).After-wrapping_add_u32-sum in
-    (omega arith, both_turn l.invariant.1 (omega arith) (omega arith) sum (turned-here (goal.at.loop-q-preserved c).After-wrapping_sub_u32-difference), lowest_turn _ l.q c.lower-least.ensures sum l.invariant.2)
+    let sum = summed-here (goal.at.loop-q-preserved c).After-wrapping_add_u32-sum in (
+      omega arith,
+      both_turn l.invariant.1 (omega arith) (omega arith) sum (turned-here (goal.at.loop-q-preserved c).After-wrapping_sub_u32-difference),
+      lowest_turn _ l.q c.lower-least.ensures sum l.invariant.2,
+    )
 
 pub returns : goal.returns
 returns c =

@@ -26,7 +26,12 @@ tick_of-tick-requires c = (below c, c.requires.2, c.requires.3)
 
 pub overflow_cast-tick : goal.overflow_cast-tick
 overflow_cast-tick c =
-    omega (arith, tick_below c.args.cycle c.tick_or_0.result c.args.rank (below (goal.at.overflow_cast-tick c).After-tick_or_0), c.tick_of-tick.ensures, c.requires.3)
+    omega (
+      arith,
+      tick_below c.args.cycle c.tick_or_0.result c.args.rank (below (goal.at.overflow_cast-tick c).After-tick_or_0),
+      c.tick_of-tick.ensures,
+      c.requires.3,
+    )
 
 pub returns : goal.returns
 returns c =

@@ -10,4 +10,7 @@ loop-j-preserved c = let l = c.loop-j in
     (omega arith, changed_turn_first l.invariant.1 (omega arith) refl, changed_turn_first l.invariant.2 (omega arith) refl)
 
 pub returns : goal.returns
-returns c = let l = c.loop-j in record { changed = changed_done l.invariant.1 (omega arith); changed_2 = changed_done l.invariant.2 (omega arith) }
+returns c = let l = c.loop-j in record {
+  changed = changed_done l.invariant.1 (omega arith);
+  changed_2 = changed_done l.invariant.2 (omega arith);
+}

@@ -46,4 +46,7 @@ loop-j-preserved c =
     )
 
 pub returns : goal.returns
-returns c = let l = c.loop-j in record { changed = changed_done l.invariant.1 (omega arith); changed_2 = changed_done l.invariant.2 (omega arith) }
+returns c = let l = c.loop-j in record {
+  changed = changed_done l.invariant.1 (omega arith);
+  changed_2 = changed_done l.invariant.2 (omega arith);
+}

@@ -22,4 +22,7 @@ loop-j-preserved c =
     (omega arith, changed_turn l.invariant.1 (omega arith) new, changed_turn l.invariant.2 (omega arith) sum)
 
 pub returns : goal.returns
-returns c = record { changed = changed_done c.loop-j.invariant.1 (omega arith); changed_2 = changed_done c.loop-j.invariant.2 (omega arith) }
+returns c = record {
+  changed = changed_done c.loop-j.invariant.1 (omega arith);
+  changed_2 = changed_done c.loop-j.invariant.2 (omega arith);
+}

@@ -28,7 +28,11 @@ lay_line-plane-requires c = (c.requires.given.0.ready, c.requires.line.0)
 pub build_ahead-requires : goal.build_ahead-requires
 build_ahead-requires c =
     let laid = lay c.requires.given.0 c.requires.given.1 c.requires.given.2 c.requires.centres.0 c.lay_line-plane.ensures in
-    let scratch = c.requires.centres.1 in record { ready = (c.requires.given.0.ready, c.requires.given.1, laid-room laid); reads = (laid.line.reads, c.requires.line.1); line = (c.requires.line.2, c.requires.line.3, scratch.change_line, scratch.step_line) }
+    let scratch = c.requires.centres.1 in record {
+      ready = (c.requires.given.0.ready, c.requires.given.1, laid-room laid);
+      reads = (laid.line.reads, c.requires.line.1);
+      line = (c.requires.line.2, c.requires.line.3, scratch.change_line, scratch.step_line);
+    }
 
 pub clear-requires : goal.clear-requires
 clear-requires c =
@@ -55,7 +59,12 @@ overflow_add-plane c =
 
 pub build_on-requires : goal.build_on-requires
 build_on-requires c =
-    let inv = c.loop-l.invariant in record { ready = (c.requires.given.0.ready, c.requires.given.1, c.loop-l-test.true, next-room inv.0 c.loop-l-test.true); reads = (inv.0.laid.line.reads, c.requires.line.1); line = (inv.1, inv.2, inv.0.scratch.change_line, inv.0.scratch.step_line); behind = inv.0.sweeping.behind }
+    let inv = c.loop-l.invariant in record {
+      ready = (c.requires.given.0.ready, c.requires.given.1, c.loop-l-test.true, next-room inv.0 c.loop-l-test.true);
+      reads = (inv.0.laid.line.reads, c.requires.line.1);
+      line = (inv.1, inv.2, inv.0.scratch.change_line, inv.0.scratch.step_line);
+      behind = inv.0.sweeping.behind;
+    }
 
 pub overflow_add-l-in-loop-l : goal.overflow_add-l-in-loop-l
 overflow_add-l-in-loop-l c = omega (arith, c.loop-l-test.true, (laid_sizes c.loop-l.invariant.0.laid).mask_columns_fit)
@@ -72,8 +81,11 @@ loop-l-preserved c =
     let inv = c.loop-l.invariant in
     let lent = c.build_on.auto in
     let step = c.build_on.new.step in
-    let due = turn_next inv.0 step c.loop-l-test.true c.build_on.ensures.changed c.build_on.ensures.behind_2 lent.change lent.step in
-    (turn_weighed due c.weigh-in-loop-l.ensures.changed c.weigh-in-loop-l.ensures.changed_2 c.weigh-in-loop-l.auto.rank, lent.row ∙ inv.1, lent.other ∙ inv.2)
+    let due = turn_next inv.0 step c.loop-l-test.true c.build_on.ensures.changed c.build_on.ensures.behind_2 lent.change lent.step in (
+      turn_weighed due c.weigh-in-loop-l.ensures.changed c.weigh-in-loop-l.ensures.changed_2 c.weigh-in-loop-l.auto.rank,
+      lent.row ∙ inv.1,
+      lent.other ∙ inv.2,
+    )
 
 pub loop-l-smaller : goal.loop-l-smaller
 loop-l-smaller c = omega (arith, c.loop-l-test.true)

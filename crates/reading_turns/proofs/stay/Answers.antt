@@ -54,7 +54,10 @@ is_plain-plain-requires c =
 pub carry_ahead-requires : goal.carry_ahead-requires
 carry_ahead-requires c =
     let laid = lay c.requires.given.0 c.requires.given.2 c.requires.given.3 c.requires.centres.0 c.lay_line-plane.ensures in
-    let scratch = c.requires.centres.1 in record { clear = (c.requires.given.0.ready.shape, laid-room laid); carry_lines = carry-lines laid.line c.requires.line.1 c.requires.line.2 scratch c.is_plain-plain.ensures }
+    let scratch = c.requires.centres.1 in record {
+      clear = (c.requires.given.0.ready.shape, laid-room laid);
+      carry_lines = carry-lines laid.line c.requires.line.1 c.requires.line.2 scratch c.is_plain-plain.ensures;
+    }
 
 pub clear-requires : goal.clear-requires
 clear-requires c =
@@ -78,7 +81,11 @@ overflow_add-plane c =
 
 pub carry_on-requires : goal.carry_on-requires
 carry_on-requires c =
-    let inv = c.loop-l.invariant in record { clear = (c.requires.given.0.ready.shape, c.loop-l-test.true, next-room inv c.loop-l-test.true); carry_lines = carry-lines inv.laid.line c.requires.line.1 c.requires.line.2 inv.scratch c.is_plain-plain.ensures; behind = inv.sweeping.behind }
+    let inv = c.loop-l.invariant in record {
+      clear = (c.requires.given.0.ready.shape, c.loop-l-test.true, next-room inv c.loop-l-test.true);
+      carry_lines = carry-lines inv.laid.line c.requires.line.1 c.requires.line.2 inv.scratch c.is_plain-plain.ensures;
+      behind = inv.sweeping.behind;
+    }
 
 pub overflow_add-l-in-loop-l : goal.overflow_add-l-in-loop-l
 overflow_add-l-in-loop-l c = omega (arith, c.loop-l-test.true, (laid_sizes c.loop-l.invariant.laid).mask_columns_fit)

@@ -41,7 +41,11 @@ pub returns-in-Read : goal.returns-in-Read
 returns-in-Read c =
     let a = c.args in
     let fits : length (image_in a.bytes.now) ≤ length a.readings.now =
-    omega (arith, length_image a.bytes.now, (readable a.bytes.now (length a.readings.now) (clear (goal.at.returns-in-Read c).In-Read)).buffer) in
+    omega (
+      arith,
+      length_image a.bytes.now,
+      (readable a.bytes.now (length a.readings.now) (clear (goal.at.returns-in-Read c).In-Read)).buffer,
+    ) in
     record {
       answer = sym (call (goal.at.returns-in-Read c).In-Read);
       memory = c.store_rows.ensures ∙ sets_front a.readings.now (image_in a.bytes.now) fits ∙ sym (after-accepted _ _ (call (goal.at.returns-in-Read c).In-Read));

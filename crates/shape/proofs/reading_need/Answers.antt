@@ -18,4 +18,6 @@ overflow_mul-result c = omega (arith, mask-small (goal.at.overflow_mul-result c)
 pub overflow_mul-result-2 : goal.overflow_mul-result-2
 overflow_mul-result-2 c =
     let m = c.args.shape in
-    record { fits = product_fits (m.mask_rows * m.mask_columns) (m.columns + 1) (omega (arith, mask-small (goal.at.overflow_mul-result-2 c).Start)) (omega arith) }
+    record {
+      fits = product_fits (m.mask_rows * m.mask_columns) (m.columns + 1) (omega (arith, mask-small (goal.at.overflow_mul-result-2 c).Start)) (omega arith);
+    }

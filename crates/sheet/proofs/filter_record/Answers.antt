@@ -25,7 +25,11 @@ sized r = r.area_of-area.ensures
 pub slice_bounds-run-end : goal.slice_bounds-run-end
 slice_bounds-run-end c =
     let a = c.args in
-    omega (arith, sized (goal.at.slice_bounds-run-end c).After-read, (image_stored a.bytes.now a.readings.now a.output.now a.work.now (passed (goal.at.slice_bounds-run-end c).Start) c.read.ensures).0)
+    omega (
+      arith,
+      sized (goal.at.slice_bounds-run-end c).After-read,
+      (image_stored a.bytes.now a.readings.now a.output.now a.work.now (passed (goal.at.slice_bounds-run-end c).Start) c.read.ensures).0,
+    )
 
 pub returns : goal.returns
 returns c =

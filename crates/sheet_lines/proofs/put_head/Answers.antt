@@ -12,46 +12,72 @@ use Rattle.sheet_lines.proofs.put_head.Goals.{After-put_counted-columns, After-p
 after_first : (c : After-put_counted-rows) → c.put_counted-rows.result ≤ 26
 after_first c = omega (arith, c.put_counted-rows.ensures.after, counted_most cycle_word c.args.shape.cycle)
 
-after-second : (c : After-put_counted-columns) → c.put_counted-columns.result ≤ 52
-after-second c =
-    let after_first' : c.put_counted-rows.result ≤ 26 = omega (arith, c.put_counted-rows.ensures.after, counted_most cycle_word c.args.shape.cycle) in
-    omega (arith, after_first', c.put_counted-columns.ensures.after, counted_most rows_word c.args.shape.rows)
+after_second : (c : After-put_counted-columns) → c.put_counted-columns.result ≤ 52
+after_second c =
+    omega (
+      arith,
+      c.put_counted-rows.ensures.after,
+      counted_most cycle_word c.args.shape.cycle,
+      c.put_counted-columns.ensures.after,
+      counted_most rows_word c.args.shape.rows,
+    )
 
-after-third : (c : After-put_counted-mask) → c.put_counted-mask.result ≤ 81
-after-third c =
-    let after-second' : c.put_counted-columns.result ≤ 52 = let after_first' : c.put_counted-rows.result ≤ 26 = omega (arith, c.put_counted-rows.ensures.after, counted_most cycle_word c.args.shape.cycle) in
-    omega (arith, after_first', c.put_counted-columns.ensures.after, counted_most rows_word c.args.shape.rows) in
-    omega (arith, after-second', c.put_counted-mask.ensures.after, counted_most columns_word c.args.shape.columns)
+after_third : (c : After-put_counted-mask) → c.put_counted-mask.result ≤ 81
+after_third c =
+    omega (
+      arith,
+      c.put_counted-rows.ensures.after,
+      counted_most cycle_word c.args.shape.cycle,
+      c.put_counted-columns.ensures.after,
+      counted_most rows_word c.args.shape.rows,
+      c.put_counted-mask.ensures.after,
+      counted_most columns_word c.args.shape.columns,
+    )
 
-after-fourth : (c : After-put_counted-side) → c.put_counted-side.result ≤ 107
-after-fourth c =
-    let after-third' : c.put_counted-mask.result ≤ 81 = let after-second' : c.put_counted-columns.result ≤ 52 = let after_first' : c.put_counted-rows.result ≤ 26 = omega (arith, c.put_counted-rows.ensures.after, counted_most cycle_word c.args.shape.cycle) in
-    omega (arith, after_first', c.put_counted-columns.ensures.after, counted_most rows_word c.args.shape.rows) in
-    omega (arith, after-second', c.put_counted-mask.ensures.after, counted_most columns_word c.args.shape.columns) in
-    omega (arith, after-third', c.put_counted-side.ensures.after, counted_most mask_word c.args.shape.mask_rows)
+after_fourth : (c : After-put_counted-side) → c.put_counted-side.result ≤ 107
+after_fourth c =
+    omega (
+      arith,
+      c.put_counted-rows.ensures.after,
+      counted_most cycle_word c.args.shape.cycle,
+      c.put_counted-columns.ensures.after,
+      counted_most rows_word c.args.shape.rows,
+      c.put_counted-mask.ensures.after,
+      counted_most columns_word c.args.shape.columns,
+      c.put_counted-side.ensures.after,
+      counted_most mask_word c.args.shape.mask_rows,
+    )
 
-after-fifth : (c : After-put_counted-end) → c.put_counted-end.result ≤ 128
-after-fifth c =
-    let after-fourth' : c.put_counted-side.result ≤ 107 = let after-third' : c.put_counted-mask.result ≤ 81 = let after-second' : c.put_counted-columns.result ≤ 52 = let after_first' : c.put_counted-rows.result ≤ 26 = omega (arith, c.put_counted-rows.ensures.after, counted_most cycle_word c.args.shape.cycle) in
-    omega (arith, after_first', c.put_counted-columns.ensures.after, counted_most rows_word c.args.shape.rows) in
-    omega (arith, after-second', c.put_counted-mask.ensures.after, counted_most columns_word c.args.shape.columns) in
-    omega (arith, after-third', c.put_counted-side.ensures.after, counted_most mask_word c.args.shape.mask_rows) in
-    omega (arith, after-fourth', c.put_counted-end.ensures.after, counted_most space c.args.shape.mask_columns)
+after_fifth : (c : After-put_counted-end) → c.put_counted-end.result ≤ 128
+after_fifth c =
+    omega (
+      arith,
+      c.put_counted-rows.ensures.after,
+      counted_most cycle_word c.args.shape.cycle,
+      c.put_counted-columns.ensures.after,
+      counted_most rows_word c.args.shape.rows,
+      c.put_counted-mask.ensures.after,
+      counted_most columns_word c.args.shape.columns,
+      c.put_counted-side.ensures.after,
+      counted_most mask_word c.args.shape.mask_rows,
+      c.put_counted-end.ensures.after,
+      counted_most space c.args.shape.mask_columns,
+    )
 
 pub put_counted-columns-requires : goal.put_counted-columns-requires
 put_counted-columns-requires c = omega (arith, after_first (goal.at.put_counted-columns-requires c).After-put_counted-rows)
 
 pub put_counted-mask-requires : goal.put_counted-mask-requires
-put_counted-mask-requires c = omega (arith, after-second (goal.at.put_counted-mask-requires c).After-put_counted-columns)
+put_counted-mask-requires c = omega (arith, after_second (goal.at.put_counted-mask-requires c).After-put_counted-columns)
 
 pub put_counted-side-requires : goal.put_counted-side-requires
-put_counted-side-requires c = omega (arith, after-third (goal.at.put_counted-side-requires c).After-put_counted-mask)
+put_counted-side-requires c = omega (arith, after_third (goal.at.put_counted-side-requires c).After-put_counted-mask)
 
 pub put_counted-end-requires : goal.put_counted-end-requires
-put_counted-end-requires c = omega (arith, after-fourth (goal.at.put_counted-end-requires c).After-put_counted-side)
+put_counted-end-requires c = omega (arith, after_fourth (goal.at.put_counted-end-requires c).After-put_counted-side)
 
 pub put_byte-requires : goal.put_byte-requires
-put_byte-requires c = omega (arith, after-fifth (goal.at.put_byte-requires c).After-put_counted-end)
+put_byte-requires c = omega (arith, after_fifth (goal.at.put_byte-requires c).After-put_counted-end)
 
 pub shape_of-text : goal.shape_of-text
 shape_of-text c =

@@ -70,8 +70,10 @@ pub put_row-place-requires : goal.put_row-place-requires
 put_row-place-requires c =
     let l = c.loop-i in
     let n = c.args.shape.columns in
-    let e : l.i * n + n - l.i * n ≡ n = omega arith in
-    (omega (arith, place-fits (goal.at.put_row-place-requires c).In-loop-i, length-take (l.i * n + n - l.i * n) (drop (l.i * n) c.args.phases.now)), rw e (c.requires.by_index l.i c.loop-i-test.true))
+    let e : l.i * n + n - l.i * n ≡ n = omega arith in (
+      omega (arith, place-fits (goal.at.put_row-place-requires c).In-loop-i, length-take (l.i * n + n - l.i * n) (drop (l.i * n) c.args.phases.now)),
+      rw e (c.requires.by_index l.i c.loop-i-test.true),
+    )
 
 pub overflow_add-i : goal.overflow_add-i
 overflow_add-i c =

@@ -73,7 +73,10 @@ put_bytes-number-requires c =
 
 pub put_signed-end-requires : goal.put_signed-end-requires
 put_signed-end-requires c =
-    let room : c.put_bytes-number.result + 21 < 2 ^ 64 = omega (arith, after-word (goal.at.put_signed-end-requires c).After-put_bytes-number) in
+    let room : c.put_bytes-number.result + 21 < 2 ^ 64 = omega (
+      arith,
+      after-word (goal.at.put_signed-end-requires c).After-put_bytes-number,
+    ) in
     room
 
 pub put_byte-requires : goal.put_byte-requires

@@ -24,4 +24,7 @@ returns-else-left-extent c =
     sym (ap (folded n) (sym c.without_rounds-left.ensures) ∙ folded_high n _ c.if-left-extent.false)
 
 pub overflow_sub-result-else-left-extent : goal.overflow_sub-result-else-left-extent
-overflow_sub-result-else-left-extent c = omega (arith, left_below (goal.at.overflow_sub-result-else-left-extent c).After-without_rounds-left)
+overflow_sub-result-else-left-extent c = omega (
+  arith,
+  left_below (goal.at.overflow_sub-result-else-left-extent c).After-without_rounds-left,
+)

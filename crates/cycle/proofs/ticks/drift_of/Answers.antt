@@ -37,8 +37,10 @@ overflow_add-back c =
 
 pub loop-i-preserved : goal.loop-i-preserved
 loop-i-preserved c =
-    let l = c.loop-i in
-    (omega arith, travelled_more l.invariant.1 (omega arith) (omega arith) (good (goal.at.loop-i-preserved c).In-loop-i) c.way_on-e.ensures c.turn_back-back.ensures c.later-last.ensures)
+    let l = c.loop-i in (
+      omega arith,
+      travelled_more l.invariant.1 (omega arith) (omega arith) (good (goal.at.loop-i-preserved c).In-loop-i) c.way_on-e.ensures c.turn_back-back.ensures c.later-last.ensures,
+    )
 
 pub signed-requires : goal.signed-requires
 signed-requires c = omega (arith, c.loop-i.invariant.1)

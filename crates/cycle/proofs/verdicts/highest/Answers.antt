@@ -17,8 +17,10 @@ loop-i-init c = (omega arith, λ k h. absurd (omega arith))
 pub loop-i-preserved : goal.loop-i-preserved
 loop-i-preserved c =
     let l = c.loop-i in
-    let a = c.args in
-    (omega arith, under_more a.readings.now a.more l.i l.invariant.1 (omega (arith, c.wrapping_add_u16.ensures, c.greater-top.ensures)) c.greater-top.ensures.1)
+    let a = c.args in (
+      omega arith,
+      under_more a.readings.now a.more l.i l.invariant.1 (omega (arith, c.wrapping_add_u16.ensures, c.greater-top.ensures)) c.greater-top.ensures.1,
+    )
 
 pub returns : goal.returns
 returns c = let l = c.loop-i in λ k h. l.invariant.1 k (omega (arith, c.loop-i-test.false))

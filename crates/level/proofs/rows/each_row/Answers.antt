@@ -57,7 +57,10 @@ pub first_row-requires : goal.first_row-requires
 first_row-requires c =
     let a = c.args in
     let n = a.shape.columns in
-    let k = c.requires.fillable.0 in record { given = (k.given, c.requires.table.0, c.requires.table.1, c.requires.table.2); i_lt_rows = (omega (arith, c.requires.fillable.1, k.within), part_length (a.first * n) n a.output.now (omega (arith, first-inside (goal.at.first_row-requires c).Start))) }
+    let k = c.requires.fillable.0 in record {
+      given = (k.given, c.requires.table.0, c.requires.table.1, c.requires.table.2);
+      i_lt_rows = (omega (arith, c.requires.fillable.1, k.within), part_length (a.first * n) n a.output.now (omega (arith, first-inside (goal.at.first_row-requires c).Start)));
+    }
 
 pub loop-i-init : goal.loop-i-init
 loop-i-init c =
@@ -74,7 +77,12 @@ offset_bounds-output-a c = omega (arith, next-inside (goal.at.offset_bounds-outp
 
 pub slice_bounds-next_row-end : goal.slice_bounds-next_row-end
 slice_bounds-next_row-end c =
-    omega (arith, next-inside (goal.at.slice_bounds-next_row-end c).In-loop-i, (opened (goal.at.slice_bounds-next_row-end c).After-first_row).len, c.loop-i.invariant.4.len)
+    omega (
+      arith,
+      next-inside (goal.at.slice_bounds-next_row-end c).In-loop-i,
+      (opened (goal.at.slice_bounds-next_row-end c).After-first_row).len,
+      c.loop-i.invariant.4.len,
+    )
 
 pub next_row-requires : goal.next_row-requires
 next_row-requires c =
@@ -125,7 +133,11 @@ returns c =
     let f = phase_at a.shape a.image.now in
     let e : l.i + 1 ≡ a.end = omega arith in
     let order : (a.first + 1) * n ≤ a.end * n = mul-le-mul_right n (omega arith) in
-    let last : a.end * n ≤ length a.output.now = omega (arith, c.requires.fillable.0.output-room, mul-le-mul_right n c.requires.fillable.0.within) in
+    let last : a.end * n ≤ length a.output.now = omega (
+      arith,
+      c.requires.fillable.0.output-room,
+      mul-le-mul_right n c.requires.fillable.0.within,
+    ) in
     record {
       phases = rw e at l.invariant.4.is ∙ ap (written f ((a.first + 1) * n) (a.end * n))
           ((opened (goal.at.returns c).After-first_row).is ∙ ap (λ (k : ℕ). written f (a.first * n) k a.output.now) (sym (next_place a.first n)))

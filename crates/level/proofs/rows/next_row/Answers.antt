@@ -56,8 +56,10 @@ start_row-least-requires c =
 pub phase_of-requires : goal.phase_of-requires
 phase_of-requires c =
     let a = c.args in
-    let x = c.start_row-least.ensures in
-    ((first (goal.at.phase_of-requires c).After-start_row-least).choosable, lowest-held (memory (goal.at.phase_of-requires c).After-start_row-least) 0 a.shape.cycle (window_sum a.shape a.image.now (a.i + 1) 0) x.0.first x.1)
+    let x = c.start_row-least.ensures in (
+      (first (goal.at.phase_of-requires c).After-start_row-least).choosable,
+      lowest-held (memory (goal.at.phase_of-requires c).After-start_row-least) 0 a.shape.cycle (window_sum a.shape a.image.now (a.i + 1) 0) x.0.first x.1,
+    )
 
 pub bounds-out-0 : goal.bounds-out-0
 bounds-out-0 c =

@@ -8,7 +8,10 @@ use Rattle.level.proofs.rows.phase_of.Goals as goal
 pub choose-requires : goal.choose-requires
 choose-requires c =
     let k = c.requires.0 in
-    record { cycle_in_bounds = (k.room, rw c.wide.ensures (heard-tick _ _ k.reading (not_silent _ c.if-centre.false)), k.fits, c.requires.1); signed = k.signed }
+    record {
+      cycle_in_bounds = (k.room, rw c.wide.ensures (heard-tick _ _ k.reading (not_silent _ c.if-centre.false)), k.fits, c.requires.1);
+      signed = k.signed;
+    }
 
 pub overflow_cast-result : goal.overflow_cast-result
 overflow_cast-result c =

@@ -18,7 +18,11 @@ loop-k-init c =
 pub add_mask_row-requires : goal.add_mask_row-requires
 add_mask_row-requires c =
     let i = c.loop-k.invariant.1 in
-    record { given = (given_kept c.requires.given.0 (i.len ∙ c.clear.ensures.len), c.requires.given.1); i_lt_rows = (omega arith, omega arith); holds = i.holds }
+    record {
+      given = (given_kept c.requires.given.0 (i.len ∙ c.clear.ensures.len), c.requires.given.1);
+      i_lt_rows = (omega arith, omega arith);
+      holds = i.holds;
+    }
 
 pub loop-k-preserved : goal.loop-k-preserved
 loop-k-preserved c = (omega arith, changed_again c.loop-k.invariant.1 c.add_mask_row.ensures)

@@ -41,21 +41,35 @@ pub mirrored-column-requires : goal.mirrored-column-requires
 mirrored-column-requires c = let k = sizes (goal.at.mirrored-column-requires c).Start in (k.columns_some, k.columns_fit)
 
 pub overflow_mul-place : goal.overflow_mul-place
-overflow_mul-place c = omega (arith, inside (goal.at.overflow_mul-place c).After-mirrored-column, area-fits (sizes (goal.at.overflow_mul-place c).Start))
+overflow_mul-place c = omega (
+  arith,
+  inside (goal.at.overflow_mul-place c).After-mirrored-column,
+  area-fits (sizes (goal.at.overflow_mul-place c).Start),
+)
 
 pub overflow_add-place : goal.overflow_add-place
-overflow_add-place c = omega (arith, inside (goal.at.overflow_add-place c).After-mirrored-column, area-fits (sizes (goal.at.overflow_add-place c).Start))
+overflow_add-place c = omega (
+  arith,
+  inside (goal.at.overflow_add-place c).After-mirrored-column,
+  area-fits (sizes (goal.at.overflow_add-place c).Start),
+)
 
 pub offset_bounds-image-place : goal.offset_bounds-image-place
-offset_bounds-image-place c = omega (arith, inside (goal.at.offset_bounds-image-place c).After-mirrored-column, area-fits (sizes (goal.at.offset_bounds-image-place c).Start))
+offset_bounds-image-place c = omega (
+  arith,
+  inside (goal.at.offset_bounds-image-place c).After-mirrored-column,
+  area-fits (sizes (goal.at.offset_bounds-image-place c).Start),
+)
 
 pub bounds-image-place : goal.bounds-image-place
 bounds-image-place c = omega (arith, inside (goal.at.bounds-image-place c).After-mirrored-column, c.requires.size)
 
 pub part_of-requires : goal.part_of-requires
 part_of-requires c =
-    let a = c.args in
-    ((sizes (goal.at.part_of-requires c).Start).cycle_fits, rw (reading (goal.at.part_of-requires c).After-mirrored-column) (padded-reading c.requires (omega arith) a.row_position a.column_position))
+    let a = c.args in (
+      (sizes (goal.at.part_of-requires c).Start).cycle_fits,
+      rw (reading (goal.at.part_of-requires c).After-mirrored-column) (padded-reading c.requires (omega arith) a.row_position a.column_position),
+    )
 
 pub returns : goal.returns
 returns c = rw (reading (goal.at.returns c).After-mirrored-column) at c.part_of.ensures

@@ -35,7 +35,12 @@ turn-requires c =
     let a = c.args in
     let g = c.requires.given.0 in
     let t = c.requires.given.1 in
-    let k = accepted g in record { n_bound = (omega (arith, column_room g 0 k.columns_some), omega (arith, columns_room g, c.first_change.ensures.len)); n_in_bounds = omega (arith, t.len, k); by_index = t.small; signed = pass_signed (passed (goal.at.turn-requires c).After-first_change) (window-signed a.shape a.image.now g (a.i + 1) 0 (omega arith) k.columns_some) }
+    let k = accepted g in record {
+      n_bound = (omega (arith, column_room g 0 k.columns_some), omega (arith, columns_room g, c.first_change.ensures.len));
+      n_in_bounds = omega (arith, t.len, k);
+      by_index = t.small;
+      signed = pass_signed (passed (goal.at.turn-requires c).After-first_change) (window-signed a.shape a.image.now g (a.i + 1) 0 (omega arith) k.columns_some);
+    }
 
 pub shape_of-work : goal.shape_of-work
 shape_of-work c = c.turn.ensures.0.len ∙ c.first_change.ensures.len

@@ -10,8 +10,10 @@ loop-k-init c = (search rules, sym (lowest-none _))
 pub lower-best-requires : goal.lower-best-requires
 lower-best-requires c =
     let a = c.args in
-    let keys = key_at a.cycle a.centre a.readings.now a.sums.now in
-    (omega (arith, c.key_of.ensures, key-signed a.cycle a.centre (get_or a.readings.now c.loop-k.k 0) (get_or a.sums.now c.loop-k.k 0) (omega arith)), omega (arith, c.loop-k.invariant.1, lowest-signed keys c.loop-k.k))
+    let keys = key_at a.cycle a.centre a.readings.now a.sums.now in (
+      omega (arith, c.key_of.ensures, key-signed a.cycle a.centre (get_or a.readings.now c.loop-k.k 0) (get_or a.sums.now c.loop-k.k 0) (omega arith)),
+      omega (arith, c.loop-k.invariant.1, lowest-signed keys c.loop-k.k),
+    )
 
 pub loop-k-preserved : goal.loop-k-preserved
 loop-k-preserved c =

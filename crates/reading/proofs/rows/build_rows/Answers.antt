@@ -22,7 +22,12 @@ loop-k-init c = (
 
 pub enter-requires : goal.enter-requires
 enter-requires c =
-    let inv = c.loop-k.invariant in record { given = (given_kept c.requires.given.0 inv.1.outside.len, c.requires.given.1, c.loop-k-test.true); line = (inv.1.own_line, c.requires.line.1, inv.2, inv.3); centres = (c.requires.centres.0, inv.1.scratch); row_weighed = inv.1.weighed }
+    let inv = c.loop-k.invariant in record {
+      given = (given_kept c.requires.given.0 inv.1.outside.len, c.requires.given.1, c.loop-k-test.true);
+      line = (inv.1.own_line, c.requires.line.1, inv.2, inv.3);
+      centres = (c.requires.centres.0, inv.1.scratch);
+      row_weighed = inv.1.weighed;
+    }
 
 pub overflow_add-k : goal.overflow_add-k
 overflow_add-k c =

@@ -24,8 +24,15 @@ inside c =
     c.requires.fillable.output-room
 
 pub loop-next-init : goal.loop-next-init
-loop-next-init c =
-    (omega arith, c.requires.fillable.order, kept_none (omega (arith, (accepted (goal.at.loop-next-init c).Start).mask_rows_odd)), outside-none, run_start, c.requires.lined.0, c.requires.lined.1)
+loop-next-init c = (
+  omega arith,
+  c.requires.fillable.order,
+  kept_none (omega (arith, (accepted (goal.at.loop-next-init c).Start).mask_rows_odd)),
+  outside-none,
+  run_start,
+  c.requires.lined.0,
+  c.requires.lined.1,
+)
 
 pub overflow_mul-a : goal.overflow_mul-a
 overflow_mul-a c = omega (arith, inside c)

@@ -25,12 +25,19 @@ centres-requires c = (c.requires.given.0.ready, c.requires.given.1, c.requires.l
 
 pub reset-requires : goal.reset-requires
 reset-requires c =
-    let scratch = c.requires.lined.1 in
-    (omega (arith, (accepted (goal.at.reset-requires c).Start).columns_fit, scratch.least_line), omega (arith, (accepted (goal.at.reset-requires c).Start).columns_fit, scratch.nearest_line))
+    let scratch = c.requires.lined.1 in (
+      omega (arith, (accepted (goal.at.reset-requires c).Start).columns_fit, scratch.least_line),
+      omega (arith, (accepted (goal.at.reset-requires c).Start).columns_fit, scratch.nearest_line),
+    )
 
 pub overflow_add-i : goal.overflow_add-i
 overflow_add-i c =
-    omega (arith, c.requires.given.1, (accepted (goal.at.overflow_add-i c).Start).rows_fit, (accepted (goal.at.overflow_add-i c).Start).mask_rows_fit)
+    omega (
+      arith,
+      c.requires.given.1,
+      (accepted (goal.at.overflow_add-i c).Start).rows_fit,
+      (accepted (goal.at.overflow_add-i c).Start).mask_rows_fit,
+    )
 
 pub overflow_sub-i : goal.overflow_sub-i
 overflow_sub-i c = omega (arith, (accepted (goal.at.overflow_sub-i c).Start).mask_rows_odd)
@@ -42,7 +49,12 @@ pad-requires c =
 pub carry_rows-requires : goal.carry_rows-requires
 carry_rows-requires c =
     let lines = c.requires.lined.0 in
-    let scratch = c.requires.lined.1 in record { given = (c.requires.given.0, c.requires.given.1, c.requires.given.2); line = (own-kept (goal.at.carry_rows-requires c).After-centres, c.pad.ensures, lines.row_line); centres = (c.centres.ensures, scratch_kept scratch refl refl c.reset.ensures.changed.len c.reset.ensures.changed_2.len); row_weighed = row_unweighed c.reset.ensures.changed c.reset.ensures.changed_2 }
+    let scratch = c.requires.lined.1 in record {
+      given = (c.requires.given.0, c.requires.given.1, c.requires.given.2);
+      line = (own-kept (goal.at.carry_rows-requires c).After-centres, c.pad.ensures, lines.row_line);
+      centres = (c.centres.ensures, scratch_kept scratch refl refl c.reset.ensures.changed.len c.reset.ensures.changed_2.len);
+      row_weighed = row_unweighed c.reset.ensures.changed c.reset.ensures.changed_2;
+    }
 
 pub build_rows-requires : goal.build_rows-requires
 build_rows-requires c =

@@ -20,13 +20,22 @@ begin-requires c =
     (omega (arith, n, c.requires.line.2), omega (arith, n, c.requires.reads.0.len))
 
 pub loop-m-init : goal.loop-m-init
-loop-m-init c =
-    (sweep_none (λ p. omega (arith, mark-small (get_or c.args.own.now p 0))) c.begin.ensures, c.requires.line.0, c.requires.line.1, c.begin.ensures.len ∙ c.requires.line.2, c.requires.line.3)
+loop-m-init c = (
+  sweep_none (λ p. omega (arith, mark-small (get_or c.args.own.now p 0))) c.begin.ensures,
+  c.requires.line.0,
+  c.requires.line.1,
+  c.begin.ensures.len ∙ c.requires.line.2,
+  c.requires.line.3,
+)
 
 pub count_rows-requires : goal.count_rows-requires
 count_rows-requires c =
     let inv = c.loop-m.invariant in
-    record { ready = (c.requires.ready.0, c.requires.ready.1, omega (arith, c.loop-m-test.true)); reads = c.requires.reads; line = (inv.1, inv.2, inv.3, inv.4) }
+    record {
+      ready = (c.requires.ready.0, c.requires.ready.1, omega (arith, c.loop-m-test.true));
+      reads = c.requires.reads;
+      line = (inv.1, inv.2, inv.3, inv.4);
+    }
 
 pub overflow_mul-l : goal.overflow_mul-l
 overflow_mul-l c =

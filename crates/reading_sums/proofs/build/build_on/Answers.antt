@@ -13,7 +13,11 @@ use Rattle.reading_sums.proofs.build.build_on.Goals as goal
 
 pub count_rows-requires : goal.count_rows-requires
 count_rows-requires c =
-    record { ready = (c.requires.ready.0, c.requires.ready.1, omega (arith, c.requires.ready.2)); reads = c.requires.reads; line = c.requires.line }
+    record {
+      ready = (c.requires.ready.0, c.requires.ready.1, omega (arith, c.requires.ready.2));
+      reads = c.requires.reads;
+      line = c.requires.line;
+    }
 
 pub overflow_add-l-2 : goal.overflow_add-l-2
 overflow_add-l-2 c = omega (arith, line_room c.args.shape c.requires.ready.0.shape, c.requires.ready.2)

@@ -29,7 +29,11 @@ shown : (l : At-loop-k) {row : List ℕ} → let a = l.args in Reads a.shape row
     (a.shape.columns + (a.shape.mask_columns - 1 - (a.start + a.at)))
 shown l {row} x =
     let accepted' : Accepted longest_cycle l.args.shape = sizes l.args.shape l.requires.ready.0.shape in
-    let inside' : l.args.at + (l.args.shape.columns + (l.args.shape.mask_columns - 1 - (l.args.start + l.args.at))) ≤ padded_length l.args.shape = omega (arith, l.requires.ready.2, accepted'.mask_columns_odd) in
+    let inside' : l.args.at + (l.args.shape.columns + (l.args.shape.mask_columns - 1 - (l.args.start + l.args.at))) ≤ padded_length l.args.shape = omega (
+      arith,
+      l.requires.ready.2,
+      accepted'.mask_columns_odd,
+    ) in
     let a = l.args in
     measurable a.shape l.requires.ready.0.shape l.requires.reads.0 x (short_plain a.shape a.own.now row l.is_short-plain.ensures) a.start a.at _
     (omega (arith, l.requires.ready.2, accepted'.mask_columns_odd)) inside'
@@ -58,13 +62,18 @@ pad-requires-in-loop-k c =
     (c.requires.ready.0, c.loop-k.invariant.4)
 
 pub distances_to_two-requires : goal.distances_to_two-requires
-distances_to_two-requires c =
-    (shown (goal.at.distances_to_two-requires c).At-loop-k c.pad.ensures.reads, shown (goal.at.distances_to_two-requires c).At-loop-k c.pad-in-loop-k.ensures.reads, omega (arith, room (goal.at.distances_to_two-requires c).Start, c.requires.ready.2, c.loop-k.invariant.6))
+distances_to_two-requires c = (
+  shown (goal.at.distances_to_two-requires c).At-loop-k c.pad.ensures.reads,
+  shown (goal.at.distances_to_two-requires c).At-loop-k c.pad-in-loop-k.ensures.reads,
+  omega (arith, room (goal.at.distances_to_two-requires c).Start, c.requires.ready.2, c.loop-k.invariant.6),
+)
 
 pub grow-requires : goal.grow-requires
 grow-requires c =
-    let n = room (goal.at.grow-requires c).Start in
-    (omega (arith, n, c.requires.ready.2, c.loop-k.invariant.5), omega (arith, n, c.requires.ready.2, c.loop-k.invariant.6, c.distances_to_two.ensures.len))
+    let n = room (goal.at.grow-requires c).Start in (
+      omega (arith, n, c.requires.ready.2, c.loop-k.invariant.5),
+      omega (arith, n, c.requires.ready.2, c.loop-k.invariant.6, c.distances_to_two.ensures.len),
+    )
 
 pub overflow_add-k-in-loop-k : goal.overflow_add-k-in-loop-k
 overflow_add-k-in-loop-k c =
@@ -83,13 +92,17 @@ loop-k-preserved c =
     )
 
 pub distances-requires : goal.distances-requires
-distances-requires c =
-    (shown (goal.at.distances-requires c).At-loop-k c.requires.reads.1.reads, omega (arith, room (goal.at.distances-requires c).Start, c.requires.ready.2, c.loop-k.invariant.6))
+distances-requires c = (
+  shown (goal.at.distances-requires c).At-loop-k c.requires.reads.1.reads,
+  omega (arith, room (goal.at.distances-requires c).Start, c.requires.ready.2, c.loop-k.invariant.6),
+)
 
 pub grow-requires-2 : goal.grow-requires-2
 grow-requires-2 c =
-    let n = room (goal.at.grow-requires-2 c).Start in
-    (omega (arith, n, c.requires.ready.2, c.loop-k.invariant.5), omega (arith, n, c.requires.ready.2, c.loop-k.invariant.6, c.distances.ensures.len))
+    let n = room (goal.at.grow-requires-2 c).Start in (
+      omega (arith, n, c.requires.ready.2, c.loop-k.invariant.5),
+      omega (arith, n, c.requires.ready.2, c.loop-k.invariant.6, c.distances.ensures.len),
+    )
 
 pub shape_of-row : goal.shape_of-row
 shape_of-row c = c.loop-k.invariant.3 ∙ sym c.requires.line.0

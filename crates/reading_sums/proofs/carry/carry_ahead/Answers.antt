@@ -32,8 +32,11 @@ pub clear-requires : goal.clear-requires
 clear-requires c = omega (arith, line_room c.args.shape c.requires.clear.0, c.requires.carry_lines.change_line)
 
 pub loop-m-init : goal.loop-m-init
-loop-m-init c =
-    (sweep_none (λ p. omega arith) c.clear.ensures, c.clear.ensures.len ∙ c.requires.carry_lines.change_line, c.requires.carry_lines.step_line)
+loop-m-init c = (
+  sweep_none (λ p. omega arith) c.clear.ensures,
+  c.clear.ensures.len ∙ c.requires.carry_lines.change_line,
+  c.requires.carry_lines.step_line,
+)
 
 pub overflow_cast-shape : goal.overflow_cast-shape
 overflow_cast-shape c = omega (arith, (sizes c.args.shape c.requires.clear.0).cycle_fits)

@@ -27,20 +27,30 @@ shown : (s : Start) {row : List ℕ} → let a = s.args in Reads a.shape row →
 shown s y p =
     let a = s.args in
     let odd = (sizes a.shape s.requires.clear.0).mask_columns_odd in
-    measurable a.shape s.requires.clear.0 s.requires.carry_lines.own_reads y p (a.l + 1) 0 _ (omega (arith, odd, s.requires.clear.1)) (omega (arith, odd, s.requires.clear.1))
+    measurable a.shape s.requires.clear.0 s.requires.carry_lines.own_reads y p (a.l + 1) 0 _ (omega (arith, odd, s.requires.clear.1)) (omega (
+      arith,
+      odd,
+      s.requires.clear.1,
+    ))
 
 pub overflow_cast-shape : goal.overflow_cast-shape
 overflow_cast-shape c = omega (arith, (sizes c.args.shape c.requires.clear.0).cycle_fits)
 
 pub steps-requires : goal.steps-requires
 steps-requires c =
-    let x = c.requires.carry_lines in
-    (shown (goal.at.steps-requires c).Start x.entering_reads x.entering_plain, shown (goal.at.steps-requires c).Start x.leaving_reads x.leaving_plain, omega (arith, room (goal.at.steps-requires c).Start, x.step_line, c.requires.clear.1))
+    let x = c.requires.carry_lines in (
+      shown (goal.at.steps-requires c).Start x.entering_reads x.entering_plain,
+      shown (goal.at.steps-requires c).Start x.leaving_reads x.leaving_plain,
+      omega (arith, room (goal.at.steps-requires c).Start, x.step_line, c.requires.clear.1),
+    )
 
 pub move_add-requires : goal.move_add-requires
 move_add-requires c =
-    let n = room (goal.at.move_add-requires c).Start in
-    (omega (arith, n, c.requires.carry_lines.change_line, c.requires.clear.1), omega (arith, n, c.steps.ensures.len, c.requires.carry_lines.step_line), c.requires.clear.2)
+    let n = room (goal.at.move_add-requires c).Start in (
+      omega (arith, n, c.requires.carry_lines.change_line, c.requires.clear.1),
+      omega (arith, n, c.steps.ensures.len, c.requires.carry_lines.step_line),
+      c.requires.clear.2,
+    )
 
 pub overflow_add-l-3 : goal.overflow_add-l-3
 overflow_add-l-3 c = omega (arith, room (goal.at.overflow_add-l-3 c).Start, c.requires.clear.1)

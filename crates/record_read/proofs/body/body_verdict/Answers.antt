@@ -34,7 +34,11 @@ end-within : (c : In-Passed) → let b = c.args.bytes.now in end_at b ≤ length
 unfolding row_at
 end-within c =
     let start_is' : mask_rows_at + c.mask_due-start.result ≡ row_at c.args.bytes.now 0 = omega (arith, c.mask_due-start.ensures) in
-    let start-within' : mask_rows_at + c.mask_due-start.result ≤ length c.args.bytes.now = omega (arith, c.mask_due-start.ensures, c.requires.1.whole) in
+    let start-within' : mask_rows_at + c.mask_due-start.result ≤ length c.args.bytes.now = omega (
+      arith,
+      c.mask_due-start.ensures,
+      c.requires.1.whole,
+    ) in
     let b = c.args.bytes.now in
     let clear = passed_clear (joined (row_field_rules b) 0 (rows_in b)) c.rows_verdict.ensures c.in-Passed.is in
     rows_within b (rows_in b) clear (omega (arith, start_is', start-within'))
@@ -49,10 +53,17 @@ pub overflow_mul-shape : goal.overflow_mul-shape
 overflow_mul-shape c = omega (arith, end_is (goal.at.overflow_mul-shape c).In-Passed, end-within (goal.at.overflow_mul-shape c).In-Passed)
 
 pub overflow_add-start-in-Passed : goal.overflow_add-start-in-Passed
-overflow_add-start-in-Passed c = omega (arith, end_is (goal.at.overflow_add-start-in-Passed c).In-Passed, end-within (goal.at.overflow_add-start-in-Passed c).In-Passed)
+overflow_add-start-in-Passed c = omega (
+  arith,
+  end_is (goal.at.overflow_add-start-in-Passed c).In-Passed,
+  end-within (goal.at.overflow_add-start-in-Passed c).In-Passed,
+)
 
 pub end_field_verdict-requires : goal.end_field_verdict-requires
-end_field_verdict-requires c = (end_is (goal.at.end_field_verdict-requires c).In-Passed, omega (arith, end_is (goal.at.end_field_verdict-requires c).In-Passed, end-within (goal.at.end_field_verdict-requires c).In-Passed))
+end_field_verdict-requires c = (
+  end_is (goal.at.end_field_verdict-requires c).In-Passed,
+  omega (arith, end_is (goal.at.end_field_verdict-requires c).In-Passed, end-within (goal.at.end_field_verdict-requires c).In-Passed),
+)
 
 pub returns-in-Refused : goal.returns-in-Refused
 returns-in-Refused c =

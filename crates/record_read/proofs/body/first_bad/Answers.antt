@@ -26,13 +26,22 @@ is_read c =
 pub returns-then-cycle-next_of : goal.returns-then-cycle-next_of
 returns-then-cycle-next_of c =
     let bad = next-none c.args.cycle _ c.number_at.type_inv c.next_of.ensures c.if-cycle-next_of.true in
-    omega (arith, first_here (is_reading c.args.cycle) 0 (numbers (goal.at.returns-then-cycle-next_of c).Start) c.loop-k.k (omega (arith, numbers-length (goal.at.returns-then-cycle-next_of c).Start)) (rw (is_read (goal.at.returns-then-cycle-next_of c).After-number_at) bad))
+    omega (
+      arith,
+      first_here (is_reading c.args.cycle) 0 (numbers (goal.at.returns-then-cycle-next_of c).Start) c.loop-k.k (omega (arith, numbers-length (goal.at.returns-then-cycle-next_of c).Start)) (rw (is_read (goal.at.returns-then-cycle-next_of c).After-number_at) bad),
+    )
 
 pub loop-k-preserved : goal.loop-k-preserved
 loop-k-preserved c =
     let good = next-reading c.args.cycle _ c.number_at.type_inv c.next_of.ensures c.if-cycle-next_of.false in
-    omega (arith, first_later (is_reading c.args.cycle) 0 (numbers (goal.at.loop-k-preserved c).Start) c.loop-k.k (omega (arith, numbers-length (goal.at.loop-k-preserved c).Start)) (rw (is_read (goal.at.loop-k-preserved c).After-number_at) good))
+    omega (
+      arith,
+      first_later (is_reading c.args.cycle) 0 (numbers (goal.at.loop-k-preserved c).Start) c.loop-k.k (omega (arith, numbers-length (goal.at.loop-k-preserved c).Start)) (rw (is_read (goal.at.loop-k-preserved c).After-number_at) good),
+    )
 
 pub returns : goal.returns
 returns c =
-    omega (arith, first-none (is_reading c.args.cycle) 0 (numbers (goal.at.returns c).Start) c.loop-k.k (omega (arith, numbers-length (goal.at.returns c).Start)))
+    omega (
+      arith,
+      first-none (is_reading c.args.cycle) 0 (numbers (goal.at.returns c).Start) c.loop-k.k (omega (arith, numbers-length (goal.at.returns c).Start)),
+    )

@@ -76,7 +76,10 @@ returns-then-k-columns c =
     let k = first_bad (is_reading (cycle_in b)) (row_in b a.i) in
     let due = lt-ltb k (length (row_in b a.i)) (omega (arith, f, n, p.columns_are, c.if-k-columns.true)) in
     let place : a.i * a.columns + c.first_bad-k.result ≡ a.i * columns_in b + k = cc in
-    let at : refused 9 (a.i * a.columns + c.first_bad-k.result) ≡ first_due (readings (goal.at.returns-then-k-columns c).In-Passed) (tt {0}) = rw (due, place) in
+    let at : refused 9 (a.i * a.columns + c.first_bad-k.result) ≡ first_due (readings (goal.at.returns-then-k-columns c).In-Passed) (tt {0}) = rw (
+      due,
+      place,
+    ) in
     at ∙ sym (on (goal.at.returns-then-k-columns c).In-Passed)
 
 pub returns-in-Refused : goal.returns-in-Refused
