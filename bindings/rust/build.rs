@@ -9,7 +9,7 @@ const VARIABLE: &str = "CIRCLE_MEDIAN_LIB";
 fn main() {
     let here = PathBuf::from(env::var_os("CARGO_MANIFEST_DIR").expect("cargo names the crate's folder"));
     let named = env::var_os(VARIABLE).filter(|folder| !folder.is_empty());
-    let folder = here.join(named.unwrap_or_else(|| "../../target/staticlib".into()));
+    let folder = here.join(named.unwrap_or_else(|| "../../crates/circle_median/out".into()));
     let archive = folder.join("libcircle_median.a");
 
     println!("cargo::rerun-if-env-changed={VARIABLE}");
@@ -19,8 +19,8 @@ fn main() {
         println!("cargo::rustc-link-lib=static=circle_median");
     } else {
         println!(
-            "cargo::error=there is no {}: run `rt staticlib circle_median` in the project's root, \
-             or set {VARIABLE} to the folder that has libcircle_median.a",
+            "cargo::error=there is no {}: run `rt lib --cpu x86-64` in crates/circle_median of the project's \
+             root, or set {VARIABLE} to the folder that has libcircle_median.a",
             archive.display()
         );
     }
