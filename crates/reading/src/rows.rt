@@ -1,5 +1,5 @@
 // The rows of a range, one after the other. Functions here take more than ten parameters: lines are lent one
-// by one, since a struct of lent slices cannot be had.
+// by one.
 ghost use Rattle.std.specs.Prelude.{◌≡◌, ◌+◌, ◌-◌, ◌*◌, ◌≤◌, ◌<◌, length};
 ghost use Rattle.lists.specs.Tabulate.{tabulate};
 ghost use Rattle.refusal.specs.Limits.{longest_cycle};

@@ -1,5 +1,5 @@
 // Planes built afresh, from every row under the mask. Functions here take more than ten parameters: lines are
-// lent one by one, since a struct of lent slices cannot be had.
+// lent one by one.
 ghost use Rattle.std.specs.Prelude.{◌+◌, ◌-◌, ◌≤◌, ◌<◌, length};
 ghost use Rattle.refusal.specs.Limits.{longest_cycle};
 ghost use Rattle.memory.specs.Memory.{Changed, Outside};

@@ -1,6 +1,6 @@
 // One mask row's turn in a row of the reading engine's output: its planes are carried or built, and each is
 // weighed as soon as it has its sums, while it is in the cache. Two functions take more than ten parameters:
-// lines are lent one by one, since a struct of lent slices cannot be had. Internal: the tests are the caller's.
+// lines are lent one by one. Internal: the tests are the caller's.
 #![tactic(auto)]
 
 ghost use Rattle.std.specs.Prelude.{◌≡◌, true, ◌+◌, ◌-◌, ◌<◌, length};
