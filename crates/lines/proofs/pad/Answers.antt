@@ -21,9 +21,9 @@ inside : (c : After-mirrored) → let a = c.args in
     (c.mirrored.result * a.shape.columns + a.shape.columns ≤ length a.image.now)
     × (c.mirrored.result * a.shape.columns + a.shape.columns ≤ most_rows * most_columns)
 inside c =
-    let sizes' : Accepted longest_cycle c.args.shape = shape_clear longest_cycle c.args.shape c.requires.0.shape in
-    let row = mirror_below c.args.shape.rows (reach c.args.shape.mask_rows) c.args.position sizes'.rows_some in
-    row_room sizes' c.mirrored.result (length c.args.image.now) (omega (arith, c.mirrored.ensures, row)) (omega (arith, c.requires.0.size))
+    let k = shape_clear longest_cycle c.args.shape c.requires.0.shape in
+    let row = mirror_below c.args.shape.rows (reach c.args.shape.mask_rows) c.args.position k.rows_some in
+    row_room k c.mirrored.result (length c.args.image.now) (omega (arith, c.mirrored.ensures, row)) (omega (arith, c.requires.0.size))
 
 pub mirrored-requires : goal.mirrored-requires
 mirrored-requires c = let k = sizes (goal.at.mirrored-requires c).Start in (k.rows_some, omega (arith, k.rows_fit))

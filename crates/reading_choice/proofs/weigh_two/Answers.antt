@@ -13,12 +13,10 @@ near : (c : In-loop-j) → let l = c.loop-j in get_or l.nearest l.j 0 ≡ get_or
 near c = let l = c.loop-j in l.invariant.2.after l.j (omega arith)
 
 -- which pair is the lower
-lower : (c : After-lower_pair-first) → let a = c.args in
-    c.lower_pair-first.result ≡ lower_at a.work.now a.plane (copied a.ranks.now 0) a.least.now a.nearest.now c.loop-j.j
-lower c =
-    let best' : let l = c.loop-j in get_or l.least l.j 0 ≡ get_or c.args.least.now l.j 0 = let l = c.loop-j in l.invariant.1.after l.j (omega arith) in
-    let near' : let l = c.loop-j in get_or l.nearest l.j 0 ≡ get_or c.args.nearest.now l.j 0 = let l = c.loop-j in l.invariant.2.after l.j (omega arith) in
-    c.lower_pair-first.ensures ∙ rw (best', near', zero-add)
+lower : (c : After-lower_pair-first) → let a = c.args in let l = c.loop-j in
+    get_or l.least l.j 0 ≡ get_or a.least.now l.j 0 → get_or l.nearest l.j 0 ≡ get_or a.nearest.now l.j 0
+    → c.lower_pair-first.result ≡ lower_at a.work.now a.plane (copied a.ranks.now 0) a.least.now a.nearest.now c.loop-j.j
+lower c same-best same-near = c.lower_pair-first.ensures ∙ rw (same-best, same-near, zero-add)
 
 pub loop-j-init : goal.loop-j-init
 loop-j-init c = (search rules, changed_start, changed_start)
@@ -39,10 +37,13 @@ lower_pair-first-requires c =
 pub loop-j-preserved : goal.loop-j-preserved
 loop-j-preserved c =
     let l = c.loop-j in
-    let first = lower (goal.at.loop-j-preserved c).After-lower_pair-first in (
+    let turn = goal.at.loop-j-preserved c in
+    let same-best = best turn.In-loop-j in
+    let same-near = near turn.In-loop-j in
+    let first = lower turn.After-lower_pair-first same-best same-near in (
       omega arith,
-      changed_turn_first l.invariant.1 (omega arith) (c.pick.ensures ∙ rw (first, best (goal.at.loop-j-preserved c).In-loop-j)),
-      changed_turn_first l.invariant.2 (omega arith) (c.pick-in-loop-j.ensures ∙ rw (first, near (goal.at.loop-j-preserved c).In-loop-j, zero-add)),
+      changed_turn_first l.invariant.1 (omega arith) (c.pick.ensures ∙ rw (first, same-best)),
+      changed_turn_first l.invariant.2 (omega arith) (c.pick-in-loop-j.ensures ∙ rw (first, same-near, zero-add)),
     )
 
 pub returns : goal.returns

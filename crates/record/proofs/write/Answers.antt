@@ -4,28 +4,21 @@ use mathlib.Core.Path.{◌≡◌, sym, ◌∙◌}
 use native.Mathlib.Omega.{arith}
 use lib.ListN.{length}
 use Rattle.lists.proofs.Stores.{sets_front}
-use Rattle.refusal.specs.Outcome.{Clear, first_due, verdict}
+use Rattle.refusal.specs.Outcome.{Clear}
 use Rattle.refusal.specs.Outcome.Outcome.{accepted}
 use Rattle.refusal.proofs.Outcome.{passed_clear, clear_accepted, refused_alone, after-refused, after-accepted}
 use Rattle.record_format.specs.Record.{record_bytes, record_length, write_rules, write_due}
 use Rattle.record_format.proofs.Fields.{length_record}
 use Rattle.record_format.proofs.Writable.{writable}
 use Rattle.record.proofs.write.Goals as goal
-use Rattle.record.proofs.write.Goals.{After-write_verdict, In-Passed}
-
--- what the tests said
-said : (c : After-write_verdict) → let a = c.args in
-    verdict c.write_verdict.result ≡ first_due (write_rules a.shape a.readings.now (length a.bytes.now)) tt
-said c = c.write_verdict.ensures
+use Rattle.record.proofs.write.Goals.{In-Passed}
 
 -- the tests that passed, and the answer
 clear : (c : In-Passed) → let a = c.args in Clear
     (write_rules a.shape a.readings.now (length a.bytes.now))
 clear c =
-    let said' : let a = c.args in
-    verdict c.write_verdict.result ≡ first_due (write_rules a.shape a.readings.now (length a.bytes.now)) tt = c.write_verdict.ensures in
     let a = c.args in
-    passed_clear (write_rules a.shape a.readings.now (length a.bytes.now)) said' c.in-Passed.is
+    passed_clear (write_rules a.shape a.readings.now (length a.bytes.now)) c.write_verdict.ensures c.in-Passed.is
 
 call : (c : In-Passed) → let a = c.args in write_due a.shape a.readings.now
     (length a.bytes.now) ≡ accepted (record_length a.shape)
@@ -40,7 +33,7 @@ pub returns-in-Refused : goal.returns-in-Refused
 unfolding write_due
 returns-in-Refused c =
     let a = c.args in
-    let e = refused_alone (write_rules a.shape a.readings.now (length a.bytes.now)) (said (goal.at.returns-in-Refused c).After-write_verdict)
+    let e = refused_alone (write_rules a.shape a.readings.now (length a.bytes.now)) c.write_verdict.ensures
     (record_length a.shape) c.in-Refused.is in
     record { answer = sym e; memory = sym (after-refused _ _ e) }
 

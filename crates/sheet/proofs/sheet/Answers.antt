@@ -7,20 +7,12 @@ use Rattle.sheet.specs.Sheet.{sheet_due}
 use Rattle.sheet.proofs.Calls.{SheetAccepted, sheet_accepted, output_sizes, output_clear, output-text, refused_sheet, printed_sheet}
 use Rattle.sheet.proofs.Fits.{told-fits}
 use Rattle.sheet.proofs.sheet.Goals as goal
-use Rattle.sheet.proofs.sheet.Goals.{After-sheet_verdict, In-Read}
+use Rattle.sheet.proofs.sheet.Goals.{In-Read}
 
--- what the tests said
-said : (c : After-sheet_verdict) → let a = c.args in
-    read_outcome c.sheet_verdict.result ≡ sheet_due a.bytes.now (length a.readings.now) (length a.output.now) (length a.work.now)
-said c = c.sheet_verdict.ensures
-
--- they have passed
+-- the tests have passed
 passed : (c : In-Read) → let a = c.args in
     sheet_due a.bytes.now (length a.readings.now) (length a.output.now) (length a.work.now) ≡ accepted c.in-Read.shape
-passed c =
-    let said' : let a = c.args in
-    read_outcome c.sheet_verdict.result ≡ sheet_due a.bytes.now (length a.readings.now) (length a.output.now) (length a.work.now) = c.sheet_verdict.ensures in
-    sym said' ∙ ap read_outcome c.in-Read.is
+passed c = sym c.sheet_verdict.ensures ∙ ap read_outcome c.in-Read.is
 
 clear : (c : In-Read) → let a = c.args in
     SheetAccepted a.bytes.now (length a.readings.now) (length a.output.now) (length a.work.now) c.in-Read.shape
@@ -41,7 +33,7 @@ put_lines-requires c =
 
 pub returns-in-Refused : goal.returns-in-Refused
 returns-in-Refused c =
-    let s = refused_sheet (sym (said (goal.at.returns-in-Refused c).After-sheet_verdict) ∙ ap read_outcome c.in-Refused.is) c.put_refusal.ensures in
+    let s = refused_sheet (sym c.sheet_verdict.ensures ∙ ap read_outcome c.in-Refused.is) c.put_refusal.ensures in
     record { sheet_call = s; result_bound = told-fits s }
 
 pub returns-in-Read : goal.returns-in-Read

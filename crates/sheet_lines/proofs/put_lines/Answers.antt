@@ -13,29 +13,18 @@ use Rattle.text.proofs.TextLaws.{laid_none, laid_more, laid-length}
 use Rattle.sheet_lines.specs.Lines.{row_line, image_lines}
 use Rattle.sheet_lines.proofs.Lengths.{head_short, rows_most}
 use Rattle.sheet_lines.proofs.put_lines.Goals as goal
-use Rattle.sheet_lines.proofs.put_lines.Goals.{In-loop-i, Start}
-
--- a row of the image lies within the phases
-inside : (s : Start) (i : ℕ) → i < s.args.shape.rows
-    → (i * s.args.shape.columns + s.args.shape.columns ≤ length s.args.phases.now)
-    × (i * s.args.shape.columns + s.args.shape.columns ≤ most_rows * most_columns)
-inside s i h =
-    let n = s.args.shape.columns in
-    let all : s.args.shape.rows * n ≤ most_rows * most_columns =
-    mul-le-mul {n₁ = s.args.shape.rows} {m₁ = n} {n₂ = most_rows} {m₂ = most_columns} s.requires.rows_le_most_rows.0 s.requires.rows_le_most_rows.1 in
-    (omega (arith, mul-le-mul_right n h, s.requires.rows_le_most_rows.2), omega (arith, mul-le-mul_right n h, all))
+use Rattle.sheet_lines.proofs.put_lines.Goals.{In-loop-i}
 
 -- the row of a turn lies within the phases
 row_inside : (c : In-loop-i) → let i = c.loop-i.i in let n = c.args.shape.columns in
     (i * n + n ≤ length c.args.phases.now) × (i * n + n ≤ most_rows * most_columns)
 row_inside c =
-    let inside' : (i : ℕ) → i < c.args.shape.rows
-    → (i * c.args.shape.columns + c.args.shape.columns ≤ length c.args.phases.now)
-    × (i * c.args.shape.columns + c.args.shape.columns ≤ most_rows * most_columns) = λ i h. let n = c.args.shape.columns in
-    let all : c.args.shape.rows * n ≤ most_rows * most_columns =
-    mul-le-mul {n₁ = c.args.shape.rows} {m₁ = n} {n₂ = most_rows} {m₂ = most_columns} c.requires.rows_le_most_rows.0 c.requires.rows_le_most_rows.1 in
-    (omega (arith, mul-le-mul_right n h, c.requires.rows_le_most_rows.2), omega (arith, mul-le-mul_right n h, all)) in
-    inside' c.loop-i.i c.loop-i-test.true
+    let s = c.args.shape in
+    let n = s.columns in
+    let sizes = c.requires.rows_le_most_rows in
+    let here = mul-le-mul_right n c.loop-i-test.true in
+    let all = mul-le-mul {n₁ = s.rows} {m₁ = n} {n₂ = most_rows} {m₂ = most_columns} sizes.0 sizes.1 in
+    (omega (arith, here, sizes.2), omega (arith, here, all))
 
 -- the place after the line of a turn fits
 place-fits : (c : In-loop-i) → c.loop-i.place + 54 + 21 * c.args.shape.columns < 2 ^ 64

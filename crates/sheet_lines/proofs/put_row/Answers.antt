@@ -27,36 +27,16 @@ after-phases p =
       counted_most row_word p.args.i,
     )
 
-after-word : (d : After-put_bytes-number) → d.put_bytes-number.result + 22 < 2 ^ 64
-after-word d =
-    let after-phases' : d.put_phases-word.result + 29 < 2 ^ 64 = omega (
-      arith,
-      d.requires.0,
-      d.put_phases-word.ensures.after,
-      words_most d.args.row.now,
-      d.put_byte-phases.ensures.after,
-      d.put_counted-name.ensures.after,
-      counted_most row_word d.args.i,
-    ) in
+after-word : (d : After-put_bytes-number) → d.put_phases-word.result + 29 < 2 ^ 64 → d.put_bytes-number.result + 22 < 2 ^ 64
+after-word d before =
     let e : d.put_bytes-number.result ≡ d.put_phases-word.result + 7 = d.put_bytes-number.ensures.after in
-    omega (arith, e, after-phases')
+    omega (arith, e, before)
 
-after-number : (z : After-put_signed-end) → z.put_signed-end.result + 1 < 2 ^ 64
-after-number z =
-    let after-word' : z.put_bytes-number.result + 22 < 2 ^ 64 = let after-phases' : z.put_phases-word.result + 29 < 2 ^ 64 = omega (
-      arith,
-      z.requires.0,
-      z.put_phases-word.ensures.after,
-      words_most z.args.row.now,
-      z.put_byte-phases.ensures.after,
-      z.put_counted-name.ensures.after,
-      counted_most row_word z.args.i,
-    ) in
-    let e : z.put_bytes-number.result ≡ z.put_phases-word.result + 7 = z.put_bytes-number.ensures.after in
-    omega (arith, e, after-phases') in
+after-number : (z : After-put_signed-end) → z.put_bytes-number.result + 22 < 2 ^ 64 → z.put_signed-end.result + 1 < 2 ^ 64
+after-number z before =
     let n = to_z w32 (of_z w32 z.row_drift.result) in
     let e : z.put_signed-end.result ≡ z.put_bytes-number.result + length (signed n) = z.put_signed-end.ensures.after in
-    omega (arith, e, signed_most n, after-word')
+    omega (arith, e, signed_most n, before)
 
 pub put_byte-phases-requires : goal.put_byte-phases-requires
 put_byte-phases-requires c =
@@ -73,14 +53,14 @@ put_bytes-number-requires c =
 
 pub put_signed-end-requires : goal.put_signed-end-requires
 put_signed-end-requires c =
-    let room : c.put_bytes-number.result + 21 < 2 ^ 64 = omega (
-      arith,
-      after-word (goal.at.put_signed-end-requires c).After-put_bytes-number,
-    ) in
+    let p = goal.at.put_signed-end-requires c in
+    let room : c.put_bytes-number.result + 21 < 2 ^ 64 = omega (arith, after-word p.After-put_bytes-number (after-phases p.After-put_phases-word)) in
     room
 
 pub put_byte-requires : goal.put_byte-requires
-put_byte-requires c = after-number (goal.at.put_byte-requires c).After-put_signed-end
+put_byte-requires c =
+    let p = goal.at.put_byte-requires c in
+    after-number p.After-put_signed-end (after-word p.After-put_bytes-number (after-phases p.After-put_phases-word))
 
 pub returns : goal.returns
 returns c =

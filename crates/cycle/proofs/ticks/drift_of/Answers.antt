@@ -1,29 +1,21 @@
-use Rattle.std.proofs.Common.{◌≡◌, ◌≤◌, true, get_or, sym, ◌∙◌, arith, rules}
-use Rattle.cycle.specs.Silence.{is_reading}
+use Rattle.std.proofs.Common.{◌≤◌, sym, ◌∙◌, arith, rules}
 use Rattle.cycle.proofs.SignedLaws.{kept}
 use Rattle.cycle.proofs.DriftLaws.{off_small, way_small, travelled_none, travelled_more, travelled_all}
 use Rattle.cycle.proofs.Accepted.{reading-good}
 use Rattle.cycle.proofs.ticks.drift_of.Goals as goal
-use Rattle.cycle.proofs.ticks.drift_of.Goals.{After-way_on-e, In-loop-i}
-
--- the number of a turn is a reading
-good : (t : In-loop-i) → let a = t.args in is_reading a.cycle (get_or a.row.now t.loop-i.i 0) ≡ true
-good t =
-    let a = t.args in
-    reading-good a.cycle a.row.now t.loop-i.i (omega arith) (omega arith)
+use Rattle.cycle.proofs.ticks.drift_of.Goals.{After-way_on-e}
 
 -- the way of a turn is at most a cycle
 way : (c : After-way_on-e) → c.way_on-e.result ≤ c.args.cycle
 way c =
-    let good' : let a = c.args in is_reading a.cycle (get_or a.row.now c.loop-i.i 0) ≡ true = let a = c.args in
-    reading-good a.cycle a.row.now c.loop-i.i (omega arith) (omega arith) in
-    omega (arith, c.way_on-e.ensures, way_small _ _ _ c.loop-i.invariant.1.last_reading good')
+    let good = reading-good c.args.cycle c.args.row.now c.loop-i.i (omega arith) (omega arith) in
+    omega (arith, c.way_on-e.ensures, way_small _ _ _ c.loop-i.invariant.1.last_reading good)
 
 pub loop-i-init : goal.loop-i-init
 loop-i-init c = (search rules, travelled_none)
 
 pub way_on-e-requires : goal.way_on-e-requires
-way_on-e-requires c = (c.loop-i.invariant.1.last_reading, good (goal.at.way_on-e-requires c).In-loop-i)
+way_on-e-requires c = (c.loop-i.invariant.1.last_reading, reading-good c.args.cycle c.args.row.now c.loop-i.i (omega arith) (omega arith))
 
 pub overflow_add-up : goal.overflow_add-up
 overflow_add-up c = omega (arith, way c, c.loop-i.invariant.1.up_small)
@@ -37,9 +29,10 @@ overflow_add-back c =
 
 pub loop-i-preserved : goal.loop-i-preserved
 loop-i-preserved c =
-    let l = c.loop-i in (
+    let l = c.loop-i in
+    let good = reading-good c.args.cycle c.args.row.now l.i (omega arith) (omega arith) in (
       omega arith,
-      travelled_more l.invariant.1 (omega arith) (omega arith) (good (goal.at.loop-i-preserved c).In-loop-i) c.way_on-e.ensures c.turn_back-back.ensures c.later-last.ensures,
+      travelled_more l.invariant.1 (omega arith) (omega arith) good c.way_on-e.ensures c.turn_back-back.ensures c.later-last.ensures,
     )
 
 pub signed-requires : goal.signed-requires

@@ -36,10 +36,9 @@ opened : (c : After-first_row) → let a = c.args in let n = a.shape.columns in
     Run (phase_at a.shape a.image.now) (a.first * n) a.output.now
     (put_mid (a.first * n) (a.first * n + n - a.first * n) a.output.now c.first_row.new.out) (a.first * n + n)
 opened c =
-    let first-inside' : let n = c.args.shape.columns in
-    (c.args.first * n + n ≤ length c.args.output.now) × (c.args.first * n + n ≤ most_rows * most_columns) = let k = c.requires.fillable.0 in
-    row_room (accepted k.given) c.args.first (length c.args.output.now) (omega (arith, c.requires.fillable.1, k.within)) k.output-room in
-    run_part run_start c.args.shape.columns _ (omega (arith, first-inside')) c.first_row.ensures.phases
+    let k = c.requires.fillable.0 in
+    let inside = row_room (accepted k.given) c.args.first (length c.args.output.now) (omega (arith, c.requires.fillable.1, k.within)) k.output-room in
+    run_part run_start c.args.shape.columns _ (omega (arith, inside)) c.first_row.ensures.phases
 
 pub overflow_mul-start : goal.overflow_mul-start
 overflow_mul-start c = omega (arith, first-inside (goal.at.overflow_mul-start c).Start)

@@ -24,7 +24,6 @@ passed : (c : After-part_at-out2) → let a = c.args in
     c.part_at-out2.result)
     (row_change a.shape a.image.now a.i (a.j + 1)) (window_sum a.shape a.image.now (a.i + 1) (a.j + 1))
 passed c =
-    let given' : let a = c.args in Given level_cycle level_need a.shape a.image.now (length a.work.now) = c.requires.given.0 in
     let a = c.args in
     let t = c.requires.given.1 in
     let x = a.shape in
@@ -33,7 +32,7 @@ passed c =
     (turned-is a.work.now a.change (row_change x y a.i a.j) (row_change x y a.i (a.j + 1)) (c.part_at-in1.ensures _ t)
     (c.part_at-in2.ensures _ t) (c.part_at-out1.ensures _ t) (c.part_at-out2.ensures _ t) c.requires.holds_2
     (λ q h. change_next x y a.i a.j q))
-    (λ q h. row_next x y given' a.i (a.j + 1) q (omega arith) (omega arith) h)
+    (λ q h. row_next x y c.requires.given.0 a.i (a.j + 1) q (omega arith) (omega arith) h)
 
 pub part_at-in1-requires : goal.part_at-in1-requires
 part_at-in1-requires c = (given (goal.at.part_at-in1-requires c).Start).ready

@@ -18,10 +18,9 @@ sizes s = shape_clear level_cycle s.args.shape s.requires.shape
 -- the place lies within the image, and its reading is that of the padded image
 inside : (c : After-mirrored-column) → let s = c.args.shape in c.mirrored-row.result * s.columns + c.mirrored-column.result < area s
 inside c =
-    let sizes' : Accepted level_cycle c.args.shape = shape_clear level_cycle c.args.shape c.requires.shape in
     let a = c.args in
     let s = a.shape in
-    let k = sizes' in
+    let k = shape_clear level_cycle s c.requires.shape in
     spot_below s.rows s.columns _ _
     (omega (arith, c.mirrored-row.ensures, mirror_below s.rows (reach s.mask_rows) a.row_position k.rows_some))
     (omega (arith, c.mirrored-column.ensures, mirror_below s.columns (reach s.mask_columns) a.column_position k.columns_some))

@@ -19,8 +19,8 @@ accepted s = sizes s.args.shape s.requires.fillable.given.ready.shape
 inside : (c : In-loop-next) → let a = c.args in let n = a.shape.columns in let i = c.loop-next.next in
     (i * n + n ≤ length a.output.now) × (i * n + n ≤ most_rows * most_columns)
 inside c =
-    let accepted' : Accepted longest_cycle c.args.shape = sizes c.args.shape c.requires.fillable.given.ready.shape in
-    row_room accepted' c.loop-next.next (length c.args.output.now) (omega (arith, c.loop-next-test.true, c.requires.fillable.within))
+    let k = sizes c.args.shape c.requires.fillable.given.ready.shape in
+    row_room k c.loop-next.next (length c.args.output.now) (omega (arith, c.loop-next-test.true, c.requires.fillable.within))
     c.requires.fillable.output-room
 
 pub loop-next-init : goal.loop-next-init

@@ -28,15 +28,10 @@ shown : (l : At-loop-k) {row : List ℕ} → let a = l.args in Reads a.shape row
     → Measurable l.is_short-plain.result a.shape.cycle a.own.now row a.start a.at
     (a.shape.columns + (a.shape.mask_columns - 1 - (a.start + a.at)))
 shown l {row} x =
-    let accepted' : Accepted longest_cycle l.args.shape = sizes l.args.shape l.requires.ready.0.shape in
-    let inside' : l.args.at + (l.args.shape.columns + (l.args.shape.mask_columns - 1 - (l.args.start + l.args.at))) ≤ padded_length l.args.shape = omega (
-      arith,
-      l.requires.ready.2,
-      accepted'.mask_columns_odd,
-    ) in
     let a = l.args in
+    let k = sizes a.shape l.requires.ready.0.shape in
     measurable a.shape l.requires.ready.0.shape l.requires.reads.0 x (short_plain a.shape a.own.now row l.is_short-plain.ensures) a.start a.at _
-    (omega (arith, l.requires.ready.2, accepted'.mask_columns_odd)) inside'
+    (omega (arith, l.requires.ready.2, k.mask_columns_odd)) (omega (arith, l.requires.ready.2, k.mask_columns_odd))
 
 pub overflow_cast-cycle : goal.overflow_cast-cycle
 overflow_cast-cycle c = omega (arith, (accepted (goal.at.overflow_cast-cycle c).Start).cycle_fits)

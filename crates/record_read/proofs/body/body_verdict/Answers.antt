@@ -23,9 +23,6 @@ start_is : (c : After-mask_due-start) → mask_rows_at + c.mask_due-start.result
 unfolding row_at
 start_is c = omega (arith, c.mask_due-start.ensures)
 
-start-within : (c : After-mask_due-start) → mask_rows_at + c.mask_due-start.result ≤ length c.args.bytes.now
-start-within c = omega (arith, c.mask_due-start.ensures, c.requires.1.whole)
-
 end_is : (c : In-Passed) → let a = c.args in
     mask_rows_at + c.mask_due-start.result + a.shape.rows * field_length a.shape.columns ≡ end_at a.bytes.now
 end_is c = let a = c.args in end_of a.bytes.now a.shape _ c.requires.0 c.mask_due-start.ensures
@@ -33,15 +30,9 @@ end_is c = let a = c.args in end_of a.bytes.now a.shape _ c.requires.0 c.mask_du
 end-within : (c : In-Passed) → let b = c.args.bytes.now in end_at b ≤ length b
 unfolding row_at
 end-within c =
-    let start_is' : mask_rows_at + c.mask_due-start.result ≡ row_at c.args.bytes.now 0 = omega (arith, c.mask_due-start.ensures) in
-    let start-within' : mask_rows_at + c.mask_due-start.result ≤ length c.args.bytes.now = omega (
-      arith,
-      c.mask_due-start.ensures,
-      c.requires.1.whole,
-    ) in
     let b = c.args.bytes.now in
     let clear = passed_clear (joined (row_field_rules b) 0 (rows_in b)) c.rows_verdict.ensures c.in-Passed.is in
-    rows_within b (rows_in b) clear (omega (arith, start_is', start-within'))
+    rows_within b (rows_in b) clear (omega (arith, c.mask_due-start.ensures, c.requires.1.whole))
 
 pub mask_due-start-requires : goal.mask_due-start-requires
 mask_due-start-requires c = omega (arith, c.requires.1.whole)

@@ -29,11 +29,10 @@ said c = let p = c.requires in rw (p.offset, p.columns_are) at c.field_verdict.e
 passed : (c : In-Passed) → let a = c.args in let b = a.bytes.now in FieldAt b (row_at b a.i) row_tag
     (numbers_length (columns_in b))
 passed c =
-    let said' : let a = c.args in let b = a.bytes.now in
-    verdict c.field_verdict.result ≡ first_due (field_rules b (row_at b a.i) row_tag (numbers_length (columns_in b))) tt = let p = c.requires in rw (p.offset, p.columns_are) at c.field_verdict.ensures in
     let a = c.args in
     let b = a.bytes.now in
-    field-passed b (row_at b a.i) row_tag (numbers_length (columns_in b)) said' c.in-Passed.is
+    let said = rw (c.requires.offset, c.requires.columns_are) at c.field_verdict.ensures in
+    field-passed b (row_at b a.i) row_tag (numbers_length (columns_in b)) said c.in-Passed.is
 
 -- the test of the readings, which follows
 abbrev readings : In-Passed → List Rule
@@ -44,11 +43,10 @@ on : (c : In-Passed) → let a = c.args in first_due (row_field_rules a.bytes.no
     ≡ first_due (readings c) tt
 unfolding row_field_rules
 on c =
-    let said' : let a = c.args in let b = a.bytes.now in
-    verdict c.field_verdict.result ≡ first_due (field_rules b (row_at b a.i) row_tag (numbers_length (columns_in b))) tt = let p = c.requires in rw (p.offset, p.columns_are) at c.field_verdict.ensures in
     let a = c.args in
     let b = a.bytes.now in
-    passed_on (field_rules b (row_at b a.i) row_tag (numbers_length (columns_in b))) said' tt (readings c) c.in-Passed.is
+    let said = rw (c.requires.offset, c.requires.columns_are) at c.field_verdict.ensures in
+    passed_on (field_rules b (row_at b a.i) row_tag (numbers_length (columns_in b))) said tt (readings c) c.in-Passed.is
 
 -- the index that was found
 found : (c : After-first_bad-k) → let a = c.args in let b = a.bytes.now in c.first_bad-k.result

@@ -30,11 +30,10 @@ first : (c : In-loop-i) → let l = c.loop-i in let b = c.args.bytes.now in
     first_due (joined (row_field_rules b) 0 (rows_in b)) (tt {0}) ≡ first_due
     (row_field_rules b l.i ++ joined (row_field_rules b) (l.i + 1) (rows_in b - (l.i + 1))) tt
 first c =
-    let rows_are' : c.args.shape.rows ≡ rows_in c.args.bytes.now = ap (λ (s : Shape). s.rows) c.requires.0 in
     let l = c.loop-i in
     let b = c.args.bytes.now in
     l.invariant.3 ∙ ap (λ (rs : List Rule). first_due rs (tt {0}))
-    (joined-first (row_field_rules b) l.i (rows_in b) (omega (arith, rows_are')))
+    (joined-first (row_field_rules b) l.i (rows_in b) (omega (arith, ap (λ (s : Shape). s.rows) c.requires.0)))
 
 -- the row that passed
 passed : (c : In-Passed) → RowIn c.args.bytes.now

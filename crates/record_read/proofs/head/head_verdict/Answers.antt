@@ -20,10 +20,10 @@ after_one c = passed_on (cycle_field_rules c.args.bytes.now) c.cycle_field_verdi
 after_two : (c : In-Passed-size_field_verdict) → let b = c.args.bytes.now in
     first_due (head_rules b) (tt {0}) ≡ first_due (field_rules b mask_field_at mask_tag (mask_due b)) tt
 after_two c =
-    let after_one' : let b = c.args.bytes.now in
-    first_due (head_rules b) (tt {0}) ≡ first_due (size_field_rules b ++ field_rules b mask_field_at mask_tag (mask_due b)) tt = passed_on (cycle_field_rules c.args.bytes.now) c.cycle_field_verdict.ensures tt _ c.in-Passed.is in
     let b = c.args.bytes.now in
-    after_one' ∙ passed_on (size_field_rules b) c.size_field_verdict.ensures tt _ c.in-Passed-size_field_verdict.is
+    let rest = size_field_rules b ++ field_rules b mask_field_at mask_tag (mask_due b) in
+    passed_on (cycle_field_rules b) c.cycle_field_verdict.ensures (tt {0}) rest c.in-Passed.is
+    ∙ passed_on (size_field_rules b) c.size_field_verdict.ensures tt _ c.in-Passed-size_field_verdict.is
 
 pub size_field_verdict-requires : goal.size_field_verdict-requires
 size_field_verdict-requires c =

@@ -29,14 +29,12 @@ columns_are c = ap (λ (s : Shape). s.columns) c.requires.0
 row-end : (c : In-loop-i) → let l = c.loop-i in let a = c.args in let n = a.shape.columns in
     (body_of l.at + numbers_length n ≤ length a.bytes.now) × (l.i * n + n ≤ length l.readings)
 row-end c =
-    let columns_are' : c.args.shape.columns ≡ columns_in c.args.bytes.now = ap (λ (s : Shape). s.columns) c.requires.0 in
-    let rows_are' : c.args.shape.rows ≡ rows_in c.args.bytes.now = ap (λ (s : Shape). s.rows) c.requires.0 in
-    let known' : Readable c.args.bytes.now (length c.args.readings.now) = readable c.args.bytes.now (length c.args.readings.now) c.requires.1 in
     let b = c.args.bytes.now in
     let i = c.loop-i.i in
-    let n = columns_are' in
-    let h : i < rows_in b = omega (arith, rows_are') in
-    (omega (arith, (known'.rows i h).field.whole), rw n (omega (arith, part_end i (rows_in b) (columns_in b) h, known'.buffer)))
+    let k = readable b (length c.args.readings.now) c.requires.1 in
+    let n : c.args.shape.columns ≡ columns_in b = ap (λ (s : Shape). s.columns) c.requires.0 in
+    let h : i < rows_in b = omega (arith, ap (λ (s : Shape). s.rows) c.requires.0) in
+    (omega (arith, (k.rows i h).field.whole), rw n (omega (arith, part_end i (rows_in b) (columns_in b) h, k.buffer)))
 
 pub mask_due-at-requires : goal.mask_due-at-requires
 mask_due-at-requires c = omega (arith, (known (goal.at.mask_due-at-requires c).Start).mask.whole)
