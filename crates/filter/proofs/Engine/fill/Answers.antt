@@ -1,18 +1,17 @@
--- `filter::engines::fill` meets its contract: each engine's contract is that of its case. Assumes nothing.
-use mathlib.Core.Path.{◌≡◌, subst}
-use lib.ListN.{length}
+-- `Engine::fill` meets its contract: each engine's contract is that of its case.
+use Rattle.std.proofs.Common.{◌≡◌, length, subst}
 use Rattle.lines.specs.Rows.{Fillable}
 use Rattle.filter.specs.Calls.{limit, need}
 use Rattle.filter.specs.declared.Engine.{Engine}
-use Rattle.filter.proofs.engines.fill.Goals as goal
-use Rattle.filter.proofs.engines.fill.Goals.{Start}
+use Rattle.filter.proofs.Engine.fill.Goals as goal
+use Rattle.filter.proofs.Engine.fill.Goals.{Start}
 
-by-engine : (s : Start) {e : Engine} → s.args.engine ≡ e → let a = s.args in
-    Fillable (limit e) (need e) a.shape a.image.now a.first a.end (length a.output.now) (length a.work.now)
+by-engine : (s : Start) {e : Engine} → s.args.self ≡ e → let a = s.args in
+    Fillable (limit e) (need e) a.image.now.shape a.image.now.readings.now a.rows.start a.rows.end (length a.output.now) (length a.work.now)
 by-engine s is =
     let a = s.args in
     subst
-    (λ (e : Engine). Fillable (limit e) (need e) a.shape a.image.now a.first a.end (length a.output.now) (length a.work.now))
+    (λ (e : Engine). Fillable (limit e) (need e) a.image.now.shape a.image.now.readings.now a.rows.start a.rows.end (length a.output.now) (length a.work.now))
     is
     s.requires
 
