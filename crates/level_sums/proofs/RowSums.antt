@@ -42,6 +42,13 @@ module _ (image : Image) (i j : ℕ) where
   pub row_rest : {w w' : List ℕ} {m : ℕ} {f : ℕ → ℕ} → RowSums image i w j m → Changed w w' (j * c) c f → RowSums image i w' (j + 1) m
   row_rest r x l a b q h = x.after (l * c + q) (omega (arith, part_end j l c (omega arith))) ∙ r l (omega arith) b q h
 
+  -- column j as it is lent
+  pub column_lent : (w : List ℕ) {a b k : ℕ} → RowSums image i w a b → a ≤ j → j < b → j * c + c ≤ length w → k ≡ c → ColumnSums image i j (take k (drop (j * c) w))
+  column_lent w {k = k} r first last room e = record {
+    len = simp (length-take, length-drop) (omega arith);
+    holds = λ q h. part-reads w (j * c) k q (omega arith) ∙ r j first last q h;
+  }
+
   -- a column of the front that has been split off
   pub column_reads : (w : List ℕ) {a b k : ℕ} → RowSums image i w a b → a ≤ j → j < b → {m : ℕ} → j * c + c ≤ m → m ≤ length w → k ≡ c
       → ColumnSums image i j (take k (drop (j * c) (take m w)))

@@ -73,3 +73,7 @@ module _ {c : ℕ} {sums : List ℕ} {t : ℕ → ℕ} (f₀ g f : ℕ → ℕ) 
 -- the lowest of the sums of a column
 pub ticks_lowest : {c n r : ℕ} {f : ℕ → ℕ} {sums : List ℕ} → AtTicks c f sums → r ≡ lowest (held sums) n → n ≡ c → r ≡ lowest f c
 ticks_lowest {c} {f = f} {sums} t e d = e ∙ ap (lowest (held sums)) d ∙ lowest_cong (held sums) f c t.holds
+
+-- and back: the lowest that the column's numbers have
+pub ticks_least : {c r : ℕ} {f : ℕ → ℕ} {sums : List ℕ} → AtTicks c f sums → r ≡ lowest f c → r ≡ lowest (held sums) (length sums)
+ticks_least {c} {f = f} {sums} t e = e ∙ sym (lowest_cong (held sums) f c t.holds) ∙ ap (lowest (held sums)) (sym t.len)
