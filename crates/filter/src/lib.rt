@@ -61,8 +61,8 @@ impl Engine {
         ensures { Filled (need self) image.now.shape image.now.readings.now rows.start rows.end output.old output.new work.old work.new }
     {
         match self {
-            Engine::Level => level::fill(image, rows, output, work),
-            Engine::Reading => reading::fill(image, rows, output, work),
+            Engine::Level => level::rows::fill(image, rows, output, work),
+            Engine::Reading => reading::rows::fill(image, rows, output, work),
         }
     }
 }

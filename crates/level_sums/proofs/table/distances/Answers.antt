@@ -1,6 +1,6 @@
 use native.Mathlib.Omega.{arith}
 use Rattle.level_sums.proofs.TableLaws.{filling-none, filling_turn, filling_all}
-use Rattle.level_sums.proofs.table.distances_by.Goals as goal
+use Rattle.level_sums.proofs.table.distances.Goals as goal
 
 pub loop-k-init : goal.loop-k-init
 loop-k-init c = rw c.requires.zeros filling-none
