@@ -1,11 +1,12 @@
 -- Document 01, "The bench sheet": the lines that are printed, as bytes. A silent phase as in document 02, T-01.
-use Rattle.std.specs.Prelude.{ℕ, cond, List, [], ◌∷◌, ◌++◌}
+use Rattle.std.specs.Prelude.{ℕ, if◌then◌else◌, List, ◌++◌, decimal}
+use Rattle.std.specs.Fmt.{signed_decimal}
+use Rattle.std.specs.List.{flat_map}
 use Rattle.lists.specs.Joined.{joined}
 use Rattle.cycle.specs.Silence.{is_heard}
 use Rattle.cycle.specs.Step.{drift}
 use Rattle.shape.specs.declared.Shape.{Shape}
 use Rattle.shape.specs.Rules.{row_of}
-use Rattle.text.specs.Text.{decimal, signed}
 use Rattle.sheet_lines.specs.Words.{refused_word, at_word, cycle_word, rows_word, columns_word, mask_word, space, row_word, colon, silent_word, drift_word}
 use Rattle.sheet_lines.specs.Words.{line_end}
 
@@ -25,16 +26,15 @@ head_line s =
 
 -- a phase: its number; of silent ones "the sheet prints them as `-`" (document 02, T-01)
 unfoldable pub phase_word : ℕ → List ℕ
-phase_word p = cond (is_heard p) (decimal p) silent_word
+phase_word p = if is_heard p then decimal p else silent_word
 
 -- each phase after a space
-unfoldable pub phase_words : List ℕ → List ℕ
-phase_words [] = []
-phase_words (p ∷ ps) = (space ++ phase_word p) ++ phase_words ps
+abbrev pub phase_words : List ℕ → List ℕ
+phase_words = flat_map (λ p. space ++ phase_word p)
 
--- "Then for each row its index from 0, its N filtered phases, and their drift."
+-- "Then for each row its index from 0, its N filtered phases, and their drift." "Only a drift below 0 has a sign."
 abbrev pub row_line : ℕ → ℕ → List ℕ → List ℕ
-row_line c i phases = counted row_word i ++ (colon ++ (phase_words phases ++ (drift_word ++ (signed (drift c phases) ++ line_end))))
+row_line c i phases = counted row_word i ++ (colon ++ (phase_words phases ++ (drift_word ++ (signed_decimal (drift c phases) ++ line_end))))
 
 -- the lines of a filtered image
 unfoldable pub image_lines : Shape → List ℕ → List ℕ
