@@ -1,18 +1,11 @@
 -- What the calls on a cycle are answered: the tests of each in order (document 01, "Refused calls"), and its result.
-use Rattle.std.specs.Prelude.{ℕ, Bool, true, false, not, List, [], ◌∷◌, ◌++◌, length, ℤ, nat_lt}
+use Rattle.std.specs.Prelude.{ℕ, Bool, not, List, [], ◌∷◌, ◌++◌, length, ℤ, nat_lt}
 use Rattle.lists.specs.First.{first_bad}
 use Rattle.refusal.specs.Limits.{longest_cycle, most_columns}
-use Rattle.refusal.specs.Outcome.{Outcome, Rule, rule, range_rules, first_due, refusal}
-use Rattle.refusal.specs.Outcome.Outcome.{accepted}
+use Rattle.refusal.specs.Outcome.{Outcome, Rule, rule, range_rules, first_due}
 use Rattle.cycle.specs.Distance.{distance, is_tick}
 use Rattle.cycle.specs.Silence.{is_reading}
 use Rattle.cycle.specs.Step.{step, drift, in_slot}
-use Rattle.cycle.specs.declared.DistanceAnswer.{DistanceAnswer}
-use Rattle.cycle.specs.declared.SlotAnswer.{SlotAnswer}
-use Rattle.cycle.specs.declared.SignedAnswer.{SignedAnswer}
-use Rattle.cycle.specs.declared.DistanceAnswer.TheVariants as distances
-use Rattle.cycle.specs.declared.SlotAnswer.TheVariants as slots
-use Rattle.cycle.specs.declared.SignedAnswer.TheVariants as signs
 
 -- 1: the cycle is 0, or above the call's limit
 abbrev pub cycle_rules : ℕ → ℕ → List Rule
@@ -54,19 +47,3 @@ slot_due c p s w = first_due (slot_rules c p s w) (in_slot c s w p)
 
 unfoldable pub drift_due : ℕ → List ℕ → Outcome ℤ
 drift_due c row = first_due (row_rules c row) (drift c row)
-
--- The answers of the code, case by case.
-
-abbrev pub distance_outcome : DistanceAnswer → Outcome ℕ
-distance_outcome (distances.Distance d) = accepted d
-distance_outcome (distances.Refused r) = refusal r
-
--- of step and of drift
-abbrev pub signed_outcome : SignedAnswer → Outcome ℤ
-signed_outcome (signs.Signed v) = accepted v
-signed_outcome (signs.Refused r) = refusal r
-
-abbrev pub slot_outcome : SlotAnswer → Outcome Bool
-slot_outcome slots.Inside = accepted true
-slot_outcome slots.Outside = accepted false
-slot_outcome (slots.Refused r) = refusal r

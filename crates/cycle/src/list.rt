@@ -1,10 +1,10 @@
 // Distances on 360 ticks, the cycle of most racks, from a list (document 02, T-05). Its numbers, one to a line, are
 // what the program `distance_list` prints; tools/same_list compares the two.
-ghost use Rattle.std.specs.Prelude.{◌≡◌, if◌then◌else◌, ◌==◌, nat_lt};
-ghost use Rattle.cycle.specs.List.{listed_cycle, listed, entry};
+ghost use Rattle.std.specs.Prelude.{◌≡◌, if◌then◌else◌, nat_lt};
+ghost use Rattle.cycle.specs.List.{listed_cycle, entry};
 
 // The cycle that the list is for.
-const LISTED_CYCLE: u16 = 360;
+pub const LISTED_CYCLE: u16 = 360;
 
 // Entry k is the distance from tick 0 to tick k.
 const DISTANCES: [u16; 360] = [
@@ -27,19 +27,8 @@ const DISTANCES: [u16; 360] = [
     17, 16, 15, 14, 13, 12, 11, 10, 9, 8, 7, 6, 5, 4, 3, 2, 1,
 ];
 
-// Whether the distances of a cycle are those of the list.
-pub fn is_listed(cycle: u16) -> bool
-    ensures { result ≡ (cycle == listed_cycle) }
-{
-    cycle == LISTED_CYCLE
-}
-
-// The list, to be lent to those who look distances up.
-pub fn listed_distances() -> [u16; 360]
-    ensures { result ≡ listed }
-{
-    DISTANCES
-}
+// The list as it lies in memory, where looking an entry up copies nothing.
+static LIST: [u16; 360] = DISTANCES;
 
 // Where in the list a gap has its distance: at its own place, or beyond the last at that of entry 0, which is 0.
 fn place_of(gap: u16) -> u16
@@ -48,10 +37,9 @@ fn place_of(gap: u16) -> u16
     if gap < LISTED_CYCLE { gap } else { 0 }
 }
 
-// The entry at a gap of the list, which is lent; 0 beyond the last. Free of branches.
-pub fn entry_in(list: &[u16], gap: u16) -> u16
-    requires { list.now ≡ listed }
+// The entry at a gap; 0 beyond the last. Free of branches.
+pub fn entry_at(gap: u16) -> u16
     ensures { result ≡ entry gap }
 {
-    list[place_of(gap) as usize]
+    LIST[place_of(gap) as usize]
 }

@@ -1,39 +1,25 @@
 // Arithmetic on ticks that have been tested.
-ghost use Rattle.std.specs.Prelude.{◌≡◌, ◌-◌, ◌^◌, ◌<◌, ◌≤◌, min, true, length, pos, ◌-ℤ◌, if◌then◌else◌};
+ghost use Rattle.std.specs.Prelude.{◌≡◌, ◌-◌, ◌^◌, ◌<◌, ◌≤◌, true, length, pos, ◌-ℤ◌, if◌then◌else◌};
 ghost use Rattle.lists.specs.First.{first_bad};
 ghost use Rattle.refusal.specs.Limits.{most_columns};
 ghost use Rattle.cycle.specs.Distance.{gap, distance};
-ghost use Rattle.cycle.specs.List.{ListFor};
 ghost use Rattle.cycle.specs.Silence.{is_reading};
 ghost use Rattle.cycle.specs.Step.{ahead, is_forward, step, drift};
 ghost use Rattle.cycle.specs.Gaps.{way_on, latest};
 
-use crate::list::{entry_in, is_listed, listed_distances};
+use crate::list::{LISTED_CYCLE, entry_at};
 
 // The reading of a wake that was not heard; no cycle has it as a tick.
 pub const SILENT: u16 = 65535;
 
-// The distance of two ticks: by the list, which is lent, on the list's cycle, and else by the formula.
-pub fn apart_by(list: &[u16], cycle: u16, a: u16, b: u16) -> u16
-    requires { ListFor cycle list.now }
-    ensures { result ≡ distance cycle a b }
-{
-    if is_listed(cycle) {
-        return entry_in(list, gap_of(a, b));
-    }
-    apart_by_formula(cycle, a, b)
-}
-
-// The same for one pair. The list is made here, where it is used, which takes as long as many look-ups: a loop
-// is lent it.
+// The distance of two ticks: by the list on the list's cycle, and else by the formula.
 pub fn apart(cycle: u16, a: u16, b: u16) -> u16
     ensures { result ≡ distance cycle a b }
 {
-    if is_listed(cycle) {
-        let list = listed_distances();
-        return apart_by(&list, cycle, a, b);
+    if cycle == LISTED_CYCLE {
+        return entry_at(a.abs_diff(b));
     }
-    apart_by(&[], cycle, a, b)
+    apart_by_formula(cycle, a, b)
 }
 
 // The same by the formula on every cycle, also on the list's: 16 bits wide and free of branches, for packed
@@ -41,29 +27,8 @@ pub fn apart(cycle: u16, a: u16, b: u16) -> u16
 pub fn apart_by_formula(cycle: u16, a: u16, b: u16) -> u16
     ensures { result ≡ distance cycle a b }
 {
-    let gap = gap_of(a, b);
-    least(gap, less(cycle, gap))
-}
-
-// |a - b|
-fn gap_of(a: u16, b: u16) -> u16
-    ensures { result ≡ gap a b }
-{
-    less(a, b) + less(b, a)
-}
-
-// a - b, or 0 where b is larger.
-pub fn less(a: u16, b: u16) -> u16
-    ensures { result ≡ a - b }
-{
-    if b <= a { a - b } else { 0 }
-}
-
-// The lesser of two numbers.
-pub fn least(a: u16, b: u16) -> u16
-    ensures { result ≡ min a b }
-{
-    if a <= b { a } else { b }
+    let gap = a.abs_diff(b);
+    gap.min(cycle.saturating_sub(gap))
 }
 
 // How many ticks b lies ahead of a.
@@ -104,10 +69,7 @@ fn way_on(cycle: u32, last: u16, z: u16) -> u32
     requires { (is_reading cycle last ≡ true) × (is_reading cycle z ≡ true) }
     ensures { result ≡ way_on cycle last z }
 {
-    if last == SILENT {
-        return 0;
-    }
-    if z == SILENT {
+    if last == SILENT || z == SILENT {
         return 0;
     }
     ahead_of(cycle, last as u32, z as u32)
@@ -126,17 +88,14 @@ pub fn drift_of(cycle: u32, row: &[u16]) -> i32
     requires { (0 < cycle) × (cycle < 2 ^ 16) × (length row.now ≤ most_columns) × (length row.now ≤ first_bad (is_reading cycle) row.now) }
     ensures { result ≡ drift cycle row.now }
 {
-    let mut up: u32 = 0;
-    let mut back: u32 = 0;
+    let mut up = 0;
+    let mut back = 0;
     let mut last = SILENT;
-    let mut i: usize = 0;
-    while i < row.len() {
-        let z = row[i];
-        let e = way_on(cycle, last, z);
+    for z in row {
+        let e = way_on(cycle, last, *z);
         up += e;
         back += turn_back(cycle, e);
-        last = later(last, z);
-        i += 1;
+        last = later(last, *z);
     }
     signed(up, back)
 }

@@ -1,9 +1,10 @@
 -- Laws of `first_bad`: it is the index of the first bad element, and a loop finds it. Assumes nothing.
 use Prim.Native.Nat.{ℕ, zero, suc, ◌+◌, ◌≤◌, ◌<◌}
-use mathlib.Core.Path.{◌≡◌, refl}
-use mathlib.Core.Bool.{Bool, true, false}
+use mathlib.Core.Path.{◌≡◌, refl, sym, ◌∙◌}
+use mathlib.Core.Bool.{Bool, true, false, false≢true}
 use mathlib.Core.List.{List, [], ◌∷◌}
 use native.Mathlib.Omega.{arith}
+use native.Mathlib.Decide.{dec_lt}
 use native.Mathlib.Numerals.{add-one}
 use lib.ListN.{length, drop, get_or, drop_of_length-le}
 use lib.Seq.{drop-cons}
@@ -72,3 +73,11 @@ module _ {A : Type 0} (good : A → Bool) where
   unfolding first_bad
   good_all [] e = omega arith
   good_all (x ∷ xs) e = let r = good_all xs e.1 in omega (arith, good_head x xs e.0)
+
+  -- where every element is good it lies past the end
+  pub first_nowhere : (d : A) (xs : List A) → ((k : ℕ) → k < length xs → good (get_or xs k d) ≡ true) → first_bad good xs ≡ length xs
+  first_nowhere d xs each = go (dec_lt (first_bad good xs) (length xs))
+    where
+      go : Dec (first_bad good xs < length xs) → first_bad good xs ≡ length xs
+      go (yes l) = absurd (false≢true (sym (at_first d xs l) ∙ each _ l))
+      go (no l) = omega (arith, first_le xs)

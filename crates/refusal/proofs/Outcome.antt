@@ -6,11 +6,9 @@ use mathlib.Core.List.{List, [], ◌∷◌, ◌++◌, append_assoc}
 use native.Mathlib.Omega.{arith}
 use borrow.Author.Tests.{lt-ltb, le-ltb, le-leb, lt-leb, eq-eqb, ne_eqb}
 use Rattle.lists.proofs.Members.{each_append, each_split}
+use Rattle.std.specs.Prelude.{Result, Err}
 use Rattle.refusal.specs.declared.Refusal.{Refusal}
-use Rattle.refusal.specs.declared.Verdict.{Verdict}
-use Rattle.refusal.specs.declared.Verdict.TheVariants.{Passed, Refused}
-use Rattle.refusal.specs.Table.{number_of, place_of}
-use Rattle.refusal.specs.Outcome.{Outcome, Rule, first_due, Clear, refusal, verdict, and_then, after}
+use Rattle.refusal.specs.Outcome.{Outcome, Rule, first_due, Clear, refusal, outcome, and_then, after}
 use Rattle.refusal.specs.Outcome.Outcome.{accepted, refused}
 
 -- what a comparison in code says of the same comparison in a rule, for `search`
@@ -123,36 +121,44 @@ due-append v w (x ∷ xs) ys = go x.due refl (due-append v w xs ys)
     go true d next = rw d
     go false d next = rw d next
 
--- what `first_of` says of two groups of tests whose verdicts it is given
-pub first_of_due : (xs ys : List Rule) {a b both : Outcome Unit} → a ≡ first_due xs tt → b ≡ first_due ys tt → both ≡ and_then a (λ u. b)
-    → both ≡ first_due (xs ++ ys) tt
-first_of_due xs ys first second said = said ∙ rw (first, second) (sym (due-append tt tt xs ys))
+-- what a group of tests answers
+abbrev pub told : List Rule → Outcome Unit
+told xs = first_due xs tt
 
--- How a call goes on after a group of tests whose verdict it has: what the verdict says of the group, and of a list that begins with it.
-module _ (xs : List Rule) {r : Verdict} (said : verdict r ≡ first_due xs tt) where
-  pub passed_clear : r ≡ Passed → Clear xs
-  passed_clear e = accepted_clear tt xs tt (sym said ∙ ap verdict e)
+-- How a call goes on after a group of tests: what its answer says of the group, and of a list that begins with it.
+module _ (xs : List Rule) where
+  pub passed_clear : {u : Unit {0}} → accepted u ≡ told xs → Clear xs
+  passed_clear {u} said = accepted_clear tt xs u (sym said)
 
-  refuses : {f : Refusal} → r ≡ Refused f → Refuses xs (number_of f) (place_of f)
-  refuses {f} e = refused-due tt xs (number_of f) (place_of f) (sym said ∙ ap verdict e)
+  module _ {A : Type 0} (v : A) where
+    refused_alone : {n k : ℕ} → refused n k ≡ told xs → refused n k ≡ first_due xs v
+    refused_alone said = sym (due-refused v (refused-due tt xs _ _ (sym said)))
 
-  pub refused_alone : {A : Type 0} (v : A) {f : Refusal} → r ≡ Refused f → first_due xs v ≡ refusal f
-  refused_alone v e = due-refused v (refuses e)
+    refused_first : (ys : List Rule) {n k : ℕ} → refused n k ≡ told xs → refused n k ≡ first_due (xs ++ ys) v
+    refused_first ys said = sym (due-refused v (longer (refused-due tt xs _ _ (sym said))))
+      where
+        longer : {n k : ℕ} → Refuses xs n k → Refuses (xs ++ ys) n k
+        longer d = record {
+          before = d.before;
+          by = d.by;
+          after = d.after ++ ys;
+          split = ap (λ (l : List Rule). l ++ ys) d.split ∙ append_assoc d.before (d.by ∷ d.after) ys;
+          clear = d.clear;
+          due = d.due;
+          number = d.number;
+          place = d.place;
+        }
 
-  pub refused-before : {A : Type 0} (v : A) (ys : List Rule) {f : Refusal} → r ≡ Refused f → first_due (xs ++ ys) v ≡ refusal f
-  refused-before v ys e = due-refused v (longer (refuses e))
-    where
-      longer : {n k : ℕ} → Refuses xs n k → Refuses (xs ++ ys) n k
-      longer d = record {
-        before = d.before;
-        by = d.by;
-        after = d.after ++ ys;
-        split = ap (λ (l : List Rule). l ++ ys) d.split ∙ append_assoc d.before (d.by ∷ d.after) ys;
-        clear = d.clear;
-        due = d.due;
-        number = d.number;
-        place = d.place;
-      }
+    -- the group refuses, and `?` hands that on; or it passes, and the tests that follow say the rest
+    pub handed_on : (ys : List Rule) {f : Refusal} {r : Result A Refusal} → refusal f ≡ told xs → r ≡ Err f → outcome r ≡ first_due (xs ++ ys) v
+    handed_on ys said e = ap outcome e ∙ refused_first ys said
 
-  pub passed_on : {A : Type 0} (v : A) (ys : List Rule) → r ≡ Passed → first_due (xs ++ ys) v ≡ first_due ys v
-  passed_on v ys e = after_clear v xs ys (passed_clear e)
+    pub passed_first : (ys : List Rule) {u : Unit {0}} {next : Outcome A} → accepted u ≡ told xs → next ≡ first_due ys v → next ≡ first_due (xs ++ ys) v
+    passed_first ys said rest = rest ∙ sym (after_clear v xs ys (passed_clear said))
+
+    -- the same of the last group, and the result after it
+    pub handed_alone : {f : Refusal} {r : Result A Refusal} → refusal f ≡ told xs → r ≡ Err f → outcome r ≡ first_due xs v
+    handed_alone said e = ap outcome e ∙ refused_alone said
+
+    pub passed_alone : {u : Unit {0}} → accepted u ≡ told xs → accepted v ≡ first_due xs v
+    passed_alone said = sym (clear_accepted v xs (passed_clear said))

@@ -5,11 +5,14 @@
 
 pub mod limits;
 
-ghost use Rattle.std.specs.Prelude.{◌≡◌};
-ghost use Rattle.refusal.specs.Outcome.{range_rules, first_due, verdict, and_then};
-ghost use Rattle.refusal.specs.Table.{number_of, place_of};
+ghost use Rattle.std.specs.Prelude.{◌≡◌, [], ◌∷◌, Some};
+ghost use Rattle.refusal.specs.Outcome.{rule, range_rules, first_due, outcome};
+ghost use Rattle.refusal.specs.Table.{number_of, place_of, refusal_text};
 
-#[derive(Clone, Copy)]
+use std::error::Error;
+use std::fmt;
+
+#[derive(Clone, Copy, Debug, PartialEq, Eq)]
 pub enum Refusal {
     // 1: the cycle is 0 or longer than the call takes.
     Cycle,
@@ -39,74 +42,68 @@ pub enum Refusal {
     Record,
 }
 
-// What a group of tests finds: nothing, or the first refusal that is due.
-#[derive(Clone, Copy)]
-pub enum Verdict {
-    Passed,
-    Refused(Refusal),
+impl Refusal {
+    // The refusal's number in the table.
+    pub fn number(self) -> u32
+        ensures { result ≡ number_of self }
+    {
+        match self {
+            Refusal::Cycle => 1,
+            Refusal::Size => 2,
+            Refusal::Mask => 3,
+            Refusal::Rows => 5,
+            Refusal::Input => 6,
+            Refusal::Buffer => 7,
+            Refusal::Work => 8,
+            Refusal::Reading(_) => 9,
+            Refusal::Cut(_) => 10,
+            Refusal::Tag(_) => 11,
+            Refusal::Length(_) => 12,
+            Refusal::Trailing(_) => 13,
+            Refusal::Record => 14,
+        }
+    }
+
+    // The refusal's place: 0 unless the table gives one.
+    pub fn place(self) -> usize
+        ensures { result ≡ place_of self }
+    {
+        match self {
+            Refusal::Reading(k)
+            | Refusal::Cut(k)
+            | Refusal::Tag(k)
+            | Refusal::Length(k)
+            | Refusal::Trailing(k) => k,
+            _ => 0,
+        }
+    }
 }
 
-// What two groups of tests find, the second after the first.
-pub fn first_of(a: Verdict, b: Verdict) -> Verdict
-    ensures { verdict result ≡ and_then (verdict a) (λ u. verdict b) }
-{
-    match a {
-        Verdict::Refused(f) => Verdict::Refused(f),
-        Verdict::Passed => b,
+// "A refusal prints `refused 9 at 1` (number, place)."
+impl fmt::Display for Refusal {
+    ghost output = { λ r. Some (refusal_text (number_of r) (place_of r)) };
+
+    fn fmt<W: fmt::Write>(&self, f: &mut fmt::Formatter<W>) -> fmt::Result {
+        let number = self.number();
+        let place = self.place();
+        write!(f, "refused {number} at {place}")
     }
+}
+
+impl Error for Refusal {}
+
+// A test: it refuses if the refusal is due.
+#[tactic(auto, unfolding(crate::specs::Outcome::first_due))]
+pub fn refuse_if(due: bool, refusal: Refusal) -> Result<(), Refusal>
+    ensures { outcome result ≡ first_due (rule due (number_of refusal) (place_of refusal) ∷ []) tt }
+{
+    if due { Err(refusal) } else { Ok(()) }
 }
 
 // The tests of a number that may be 1 up to `most`.
-pub fn range_verdict(x: usize, most: usize, f: Refusal) -> Verdict
-    ensures { verdict result ≡ first_due (range_rules (number_of f) (place_of f) most x) tt }
+pub fn check_range(x: usize, most: usize, refusal: Refusal) -> Result<(), Refusal>
+    ensures { outcome result ≡ first_due (range_rules (number_of refusal) (place_of refusal) most x) tt }
 {
-    if x == 0 {
-        return Verdict::Refused(f);
-    }
-    if most < x {
-        return Verdict::Refused(f);
-    }
-    Verdict::Passed
-}
-
-// The refusal's number in the table.
-pub fn number(r: Refusal) -> u32
-    ensures { result ≡ number_of r }
-{
-    match r {
-        Refusal::Cycle => 1,
-        Refusal::Size => 2,
-        Refusal::Mask => 3,
-        Refusal::Rows => 5,
-        Refusal::Input => 6,
-        Refusal::Buffer => 7,
-        Refusal::Work => 8,
-        Refusal::Reading(_) => 9,
-        Refusal::Cut(_) => 10,
-        Refusal::Tag(_) => 11,
-        Refusal::Length(_) => 12,
-        Refusal::Trailing(_) => 13,
-        Refusal::Record => 14,
-    }
-}
-
-// The refusal's place: 0 unless the table gives one.
-pub fn place(r: Refusal) -> usize
-    ensures { result ≡ place_of r }
-{
-    match r {
-        Refusal::Cycle => 0,
-        Refusal::Size => 0,
-        Refusal::Mask => 0,
-        Refusal::Rows => 0,
-        Refusal::Input => 0,
-        Refusal::Buffer => 0,
-        Refusal::Work => 0,
-        Refusal::Reading(k) => k,
-        Refusal::Cut(k) => k,
-        Refusal::Tag(k) => k,
-        Refusal::Length(k) => k,
-        Refusal::Trailing(k) => k,
-        Refusal::Record => 0,
-    }
+    refuse_if(x == 0, refusal)?;
+    refuse_if(most < x, refusal)
 }

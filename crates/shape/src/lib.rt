@@ -1,20 +1,21 @@
 // The cycle, the sizes of an image and the sides of a mask, the tests on them that the filters, the reader,
-// the writer and the live window share, and the work memory that each engine needs. All are total but `reading_need`, which
-// is internal: its `requires` is met by the tests before.
+// the writer and the live window share, and the work memory that each engine needs. All are total but
+// `reading_need`, which is internal: its `requires` is met by the tests before.
 #![tactic(auto)]
 
 ghost use Rattle.std.specs.Prelude.{◌≡◌, [], ◌∷◌, ◌≤◌};
 ghost use Rattle.refusal.specs.Limits.{most_mask_rows, most_mask_columns};
-ghost use Rattle.refusal.specs.Outcome.{first_due, verdict};
+ghost use Rattle.refusal.specs.Outcome.{first_due, outcome};
 ghost use Rattle.shape.specs.Need.{level_need, reading_need};
 ghost use Rattle.shape.specs.Rules.{size_rules, side_rules, mask_rules, shape_rules, area, rows_rules, input_rule, buffer_rule, work_rule};
 
-use cycle::cycle_verdict;
+use cycle::check_cycle;
 use refusal::limits::{MOST_COLUMNS, MOST_MASK_COLUMNS, MOST_MASK_ROWS, MOST_ROWS};
-use refusal::{Refusal, Verdict, first_of, range_verdict};
+use refusal::{Refusal, check_range, refuse_if};
+use std::ops::Range;
 
 // The paper's C, M, N, R and T.
-#[derive(Clone, Copy)]
+#[derive(Clone, Copy, Debug, PartialEq, Eq)]
 pub struct Shape {
     pub cycle: u32,
     pub rows: u32,
@@ -23,111 +24,88 @@ pub struct Shape {
     pub mask_columns: u32,
 }
 
-// Test 2.
-pub fn size_verdict(rows: u32, columns: u32) -> Verdict
-    ensures { verdict result ≡ first_due (size_rules rows columns) tt }
-{
-    first_of(
-        range_verdict(rows as usize, MOST_ROWS as usize, Refusal::Size),
-        range_verdict(columns as usize, MOST_COLUMNS as usize, Refusal::Size),
-    )
+impl Shape {
+    // Test 2.
+    pub fn check_size(self) -> Result<(), Refusal>
+        ensures { outcome result ≡ first_due (size_rules self.rows self.columns) tt }
+    {
+        check_range(self.rows as usize, MOST_ROWS as usize, Refusal::Size)?;
+        check_range(self.columns as usize, MOST_COLUMNS as usize, Refusal::Size)
+    }
+
+    // Test 3.
+    pub fn check_mask(self) -> Result<(), Refusal>
+        ensures { outcome result ≡ first_due (mask_rules self.mask_rows self.mask_columns) tt }
+    {
+        check_side(self.mask_rows, MOST_MASK_ROWS)?;
+        check_side(self.mask_columns, MOST_MASK_COLUMNS)
+    }
+
+    // Tests 1 to 3, for a call that takes cycles up to a limit.
+    pub fn check(self, limit: u32) -> Result<(), Refusal>
+        ensures { outcome result ≡ first_due (shape_rules limit self) tt }
+    {
+        check_cycle(limit, self.cycle)?;
+        self.check_size()?;
+        self.check_mask()
+    }
+
+    // The number of readings of an image.
+    pub fn area(self) -> usize
+        ensures { result ≡ area self }
+    {
+        (self.rows as usize) * (self.columns as usize)
+    }
+
+    // The numbers of work memory that the level engine needs.
+    pub fn level_need(self) -> usize
+        ensures { result ≡ level_need self }
+    {
+        (self.cycle as usize) * (self.columns as usize + 1)
+    }
+
+    // Those that the reading engine needs, for a mask that has passed its tests.
+    pub fn reading_need(self) -> usize
+        requires { (self.mask_rows ≤ most_mask_rows) × (self.mask_columns ≤ most_mask_columns) }
+        ensures { result ≡ reading_need self }
+    {
+        (self.mask_rows as usize) * (self.mask_columns as usize) * (self.columns as usize + 1)
+    }
 }
 
 // Test 3, on one side.
-pub fn side_verdict(side: u32, most: u32) -> Verdict
-    ensures { verdict result ≡ first_due (side_rules most side) tt }
+pub fn check_side(side: u32, most: u32) -> Result<(), Refusal>
+    ensures { outcome result ≡ first_due (side_rules most side) tt }
 {
-    if side % 2 == 0 {
-        return Verdict::Refused(Refusal::Mask);
-    }
-    if most < side {
-        return Verdict::Refused(Refusal::Mask);
-    }
-    Verdict::Passed
+    refuse_if(side % 2 == 0, Refusal::Mask)?;
+    refuse_if(most < side, Refusal::Mask)
 }
 
-// Test 3.
-pub fn mask_verdict(mask_rows: u32, mask_columns: u32) -> Verdict
-    ensures { verdict result ≡ first_due (mask_rules mask_rows mask_columns) tt }
+// Test 5, of a range of rows.
+pub fn check_rows(rows: u32, range: &Range<u32>) -> Result<(), Refusal>
+    ensures { outcome result ≡ first_due (rows_rules rows range.now.start range.now.end) tt }
 {
-    first_of(
-        side_verdict(mask_rows, MOST_MASK_ROWS),
-        side_verdict(mask_columns, MOST_MASK_COLUMNS),
-    )
-}
-
-// Tests 1 to 3, for a call that takes cycles up to a limit.
-pub fn shape_verdict(limit: u32, shape: Shape) -> Verdict
-    ensures { verdict result ≡ first_due (shape_rules limit shape) tt }
-{
-    let sizes = first_of(
-        size_verdict(shape.rows, shape.columns),
-        mask_verdict(shape.mask_rows, shape.mask_columns),
-    );
-    first_of(cycle_verdict(limit, shape.cycle), sizes)
-}
-
-// The number of readings of an image.
-pub fn area_of(shape: Shape) -> usize
-    ensures { result ≡ area shape }
-{
-    (shape.rows as usize) * (shape.columns as usize)
-}
-
-// The numbers of work memory that the level engine needs.
-pub fn level_need(shape: Shape) -> usize
-    ensures { result ≡ level_need shape }
-{
-    (shape.cycle as usize) * (shape.columns as usize + 1)
-}
-
-// Those that the reading engine needs, for a mask that has passed its tests.
-pub fn reading_need(shape: Shape) -> usize
-    requires { (shape.mask_rows ≤ most_mask_rows) × (shape.mask_columns ≤ most_mask_columns) }
-    ensures { result ≡ reading_need shape }
-{
-    (shape.mask_rows as usize) * (shape.mask_columns as usize) * (shape.columns as usize + 1)
-}
-
-// Test 5, of the rows from first up to end.
-pub fn rows_verdict(rows: u32, first: u32, end: u32) -> Verdict
-    ensures { verdict result ≡ first_due (rows_rules rows first end) tt }
-{
-    if end < first {
-        return Verdict::Refused(Refusal::Rows);
-    }
-    if rows < end {
-        return Verdict::Refused(Refusal::Rows);
-    }
-    Verdict::Passed
+    refuse_if(range.end < range.start, Refusal::Rows)?;
+    refuse_if(rows < range.end, Refusal::Rows)
 }
 
 // Test 6, of an input that has to have so many readings.
-pub fn input_verdict(due: usize, size: usize) -> Verdict
-    ensures { verdict result ≡ first_due (input_rule due size ∷ []) tt }
+pub fn check_input(due: usize, size: usize) -> Result<(), Refusal>
+    ensures { outcome result ≡ first_due (input_rule due size ∷ []) tt }
 {
-    if size != due {
-        return Verdict::Refused(Refusal::Input);
-    }
-    Verdict::Passed
+    refuse_if(size != due, Refusal::Input)
 }
 
 // Test 7, where a buffer needs so much room.
-pub fn buffer_verdict(need: usize, room: usize) -> Verdict
-    ensures { verdict result ≡ first_due (buffer_rule need room ∷ []) tt }
+pub fn check_buffer(need: usize, room: usize) -> Result<(), Refusal>
+    ensures { outcome result ≡ first_due (buffer_rule need room ∷ []) tt }
 {
-    if room < need {
-        return Verdict::Refused(Refusal::Buffer);
-    }
-    Verdict::Passed
+    refuse_if(room < need, Refusal::Buffer)
 }
 
 // Test 8, where so many numbers of work memory are needed.
-pub fn work_verdict(need: usize, work: usize) -> Verdict
-    ensures { verdict result ≡ first_due (work_rule need work ∷ []) tt }
+pub fn check_work(need: usize, work: usize) -> Result<(), Refusal>
+    ensures { outcome result ≡ first_due (work_rule need work ∷ []) tt }
 {
-    if work < need {
-        return Verdict::Refused(Refusal::Work);
-    }
-    Verdict::Passed
+    refuse_if(work < need, Refusal::Work)
 }

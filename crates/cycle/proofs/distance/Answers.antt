@@ -1,32 +1,19 @@
--- `cycle::distance` meets its contract. Assumes nothing.
-use Rattle.std.proofs.Common.{sym, arith}
+-- `cycle::distance` meets its contract.
+use Rattle.std.proofs.Common.{arith, rules}
+use Rattle.refusal.proofs.Outcome.{handed_alone, passed_alone, passed_clear}
 use Rattle.cycle.specs.Calls.{distance_due, pair_rules}
 use Rattle.cycle.proofs.Accepted.{pair_clear}
-use Rattle.refusal.specs.Outcome.{Clear}
-use Rattle.refusal.proofs.Outcome.{passed_clear, clear_accepted, refused_alone}
 use Rattle.cycle.proofs.distance.Goals as goal
-use Rattle.cycle.proofs.distance.Goals.{In-Passed}
 
--- the tests that passed
-clear : (c : In-Passed) → let a = c.args in Clear (pair_rules a.cycle a.a a.b)
-clear c = let a = c.args in passed_clear (pair_rules a.cycle a.a a.b) c.pair_verdict.ensures
-    c.in-Passed.is
+pub returns-in_err-check_pair : goal.returns-in_err-check_pair
+unfolding distance_due
+returns-in_err-check_pair c = let a = c.args in handed_alone (pair_rules a.cycle a.a a.b) _ c.in_err-check_pair.ensures (search rules)
 
 pub overflow_cast-cycle : goal.overflow_cast-cycle
 overflow_cast-cycle c =
     let a = c.args in
-    let k = clear c in
-    omega (arith, pair_clear a.cycle a.a a.b k)
+    omega (arith, pair_clear a.cycle a.a a.b (passed_clear _ c.in_ok-check_pair.ensures))
 
-pub returns-in-Refused : goal.returns-in-Refused
+pub returns : goal.returns
 unfolding distance_due
-returns-in-Refused c =
-    let a = c.args in
-    sym (refused_alone (pair_rules a.cycle a.a a.b) c.pair_verdict.ensures _ c.in-Refused.is)
-
-pub returns-in-Passed : goal.returns-in-Passed
-unfolding distance_due
-returns-in-Passed c =
-    let a = c.args in
-    let k = clear (goal.at.returns-in-Passed c).In-Passed in
-    rw c.apart.ensures (sym (clear_accepted _ (pair_rules a.cycle a.a a.b) k))
+returns c = let a = c.args in rw c.apart.ensures (passed_alone (pair_rules a.cycle a.a a.b) _ c.in_ok-check_pair.ensures)

@@ -1,34 +1,22 @@
--- `cycle::drift` meets its contract. Assumes nothing.
-use Rattle.std.proofs.Common.{sym, arith}
-use Rattle.cycle.proofs.SignedLaws.{kept}
+-- `cycle::drift` meets its contract.
+use Rattle.std.proofs.Common.{arith, rules}
+use Rattle.refusal.proofs.Outcome.{handed_alone, passed_alone, passed_clear}
+use Rattle.cycle.specs.Calls.{drift_due, row_rules}
 use Rattle.cycle.proofs.Accepted.{drift_clear}
-use Rattle.cycle.specs.Calls.{row_rules, drift_due}
-use Rattle.refusal.specs.Outcome.{Clear}
-use Rattle.refusal.proofs.Outcome.{passed_clear, clear_accepted, refused_alone}
+use Rattle.cycle.proofs.SignedLaws.{kept}
 use Rattle.cycle.proofs.drift.Goals as goal
-use Rattle.cycle.proofs.drift.Goals.{In-Passed}
 
--- the tests that passed
-clear : (c : In-Passed) → let a = c.args in Clear (row_rules a.cycle a.row.now)
-clear c =
-    let a = c.args in
-    passed_clear (row_rules a.cycle a.row.now) c.row_verdict.ensures c.in-Passed.is
+pub returns-in_err-check_row : goal.returns-in_err-check_row
+unfolding drift_due
+returns-in_err-check_row c = let a = c.args in handed_alone (row_rules a.cycle a.row.now) _ c.in_err-check_row.ensures (search rules)
 
 pub drift_of-requires : goal.drift_of-requires
 drift_of-requires c =
     let a = c.args in
-    let k = clear c in
-    omega (arith, drift_clear a.cycle a.row.now k)
+    omega (arith, drift_clear a.cycle a.row.now (passed_clear _ c.in_ok-check_row.ensures))
 
-pub returns-in-Refused : goal.returns-in-Refused
+pub returns : goal.returns
 unfolding drift_due
-returns-in-Refused c =
+returns c =
     let a = c.args in
-    sym (refused_alone (row_rules a.cycle a.row.now) c.row_verdict.ensures _ c.in-Refused.is)
-
-pub returns-in-Passed : goal.returns-in-Passed
-unfolding drift_due
-returns-in-Passed c =
-    let a = c.args in
-    let k = clear (goal.at.returns-in-Passed c).In-Passed in
-    rw (kept c.drift_of.type_inv, c.drift_of.ensures) (sym (clear_accepted _ (row_rules a.cycle a.row.now) k))
+    rw (kept c.drift_of.type_inv, c.drift_of.ensures) (passed_alone (row_rules a.cycle a.row.now) _ c.in_ok-check_row.ensures)

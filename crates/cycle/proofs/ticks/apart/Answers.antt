@@ -1,7 +1,6 @@
--- `cycle::ticks::apart` meets its contract. Assumes nothing.
-use Rattle.cycle.proofs.ListLaws.{listed_no}
+-- `cycle::ticks::apart` meets its contract: by the list, or by the formula.
+use Rattle.cycle.proofs.ListLaws.{by_list}
 use Rattle.cycle.proofs.ticks.apart.Goals as goal
 
--- on another cycle nothing need be lent
-pub apart_by-requires-2 : goal.apart_by-requires-2
-apart_by-requires-2 c = listed_no _ _ c.is_listed.ensures c.if-is_listed.false
+pub returns-then-cycle-eq-LISTED_CYCLE : goal.returns-then-cycle-eq-LISTED_CYCLE
+returns-then-cycle-eq-LISTED_CYCLE c = by_list _ _ _ c.if-cycle-eq-LISTED_CYCLE.true c.abs_diff.ensures c.entry_at.ensures

@@ -1,15 +1,12 @@
--- `cycle::ticks::way_on` meets its contract. Assumes nothing.
+-- `cycle::ticks::way_on` meets its contract.
+use Rattle.std.proofs.Common.{inl, inr}
 use Rattle.cycle.specs.Gaps.{way_on}
-use Rattle.cycle.proofs.SilenceLaws.{unheard, not_silent, heard-tick}
+use Rattle.cycle.proofs.DriftLaws.{way_none}
+use Rattle.cycle.proofs.SilenceLaws.{not_silent, heard-tick}
 use Rattle.cycle.proofs.ticks.way_on.Goals as goal
 
 pub returns-then-last-eq-SILENT : goal.returns-then-last-eq-SILENT
-unfolding way_on
-returns-then-last-eq-SILENT c = rw (unheard _ c.if-last-eq-SILENT.true)
-
-pub returns-then-z-eq-SILENT : goal.returns-then-z-eq-SILENT
-unfolding way_on
-returns-then-z-eq-SILENT c = rw (not_silent _ c.if-last-eq-SILENT.false, unheard _ c.if-z-eq-SILENT.true)
+returns-then-last-eq-SILENT c = way_none c.args.cycle c.args.last c.args.z (elim c.then-last-eq-SILENT.either [ inl e ↦ inl e | inr e ↦ inr e.1 ])
 
 pub ahead_of-requires : goal.ahead_of-requires
 ahead_of-requires c =

@@ -1,0 +1,16 @@
+-- `refusal::check_range` meets its contract: two tests, one after the other.
+use Rattle.std.proofs.Common.{[], ◌∷◌, nat_lt, rules}
+use Rattle.refusal.specs.Outcome.{rule}
+use Rattle.refusal.specs.Table.{number_of, place_of}
+use Rattle.refusal.proofs.Outcome.{handed_on, passed_first}
+use Rattle.refusal.proofs.check_range.Goals as goal
+
+pub returns-in_err-refuse_if : goal.returns-in_err-refuse_if
+returns-in_err-refuse_if c =
+    let a = c.args in
+    handed_on _ tt (rule (nat_lt a.most a.x) (number_of a.refusal) (place_of a.refusal) ∷ []) c.in_err-refuse_if.ensures (search rules)
+
+pub returns : goal.returns
+returns c =
+    let a = c.args in
+    passed_first _ tt (rule (nat_lt a.most a.x) (number_of a.refusal) (place_of a.refusal) ∷ []) c.in_ok-refuse_if.ensures c.refuse_if-2.ensures
