@@ -8,12 +8,11 @@ ghost use Rattle.refusal.specs.Limits.{most_rows, most_columns};
 ghost use Rattle.refusal.specs.Table.{number_of, place_of};
 ghost use Rattle.refusal.specs.Outcome.{Clear};
 ghost use Rattle.cycle.specs.Calls.{row_rules};
-ghost use Rattle.cycle.specs.Step.{drift};
 ghost use Rattle.shape.specs.Rules.{area, row_of};
 ghost use Rattle.text.specs.Text.{Laid, Put};
 ghost use Rattle.sheet_lines.specs.Lines.{refusal_line, head_line, phase_word, phase_words, row_line, image_lines};
 
-use cycle::{SILENT, SignedAnswer};
+use cycle::SILENT;
 use itoa::Integer;
 use refusal::Refusal;
 use shape::Shape;
@@ -31,12 +30,12 @@ fn put_counted<I: Integer>(text: &mut Text, word: &[u8], n: I)
 }
 
 // The line of a refusal.
-pub fn put_refusal(memory: &mut [u8], f: Refusal) -> usize
-    ensures { Laid memory.old 0 (refusal_line (number_of f) (place_of f)) result memory.new }
+pub fn put_refusal(memory: &mut [u8], refusal: Refusal) -> usize
+    ensures { Laid memory.old 0 (refusal_line (number_of refusal) (place_of refusal)) result memory.new }
 {
     let mut text = Text::new(memory);
-    put_counted(&mut text, b"refused ", refusal::number(f));
-    put_counted(&mut text, b" at ", refusal::place(f));
+    put_counted(&mut text, b"refused ", refusal.number());
+    put_counted(&mut text, b" at ", refusal.place());
     text.put_bytes(b"\n");
     text.length()
 }
@@ -74,26 +73,16 @@ fn put_phases(text: &mut Text, row: &[u16])
     }
 }
 
-// The drift of a row of phases.
-fn row_drift(cycle: u32, row: &[u16]) -> i32
-    requires { Clear (row_rules cycle row.now) }
-    ensures { result ≡ drift cycle row.now }
-{
-    match cycle::drift(cycle, row) {
-        SignedAnswer::Signed(d) => d,
-        SignedAnswer::Refused(_) => 0,
-    }
-}
-
-// The line of a row.
+// The line of a row, which has a drift.
 fn put_row(text: &mut Text, cycle: u32, i: usize, row: &[u16])
     requires { Clear (row_rules cycle row.now) }
     ensures { Put text.old (row_line cycle i row.now) text.new }
 {
+    let drift = cycle::drift(cycle, row).unwrap();
     put_counted(text, b"row ", i);
     text.put_bytes(b":");
     put_phases(text, row);
-    put_counted(text, b" drift ", row_drift(cycle, row));
+    put_counted(text, b" drift ", drift);
     text.put_bytes(b"\n");
 }
 
