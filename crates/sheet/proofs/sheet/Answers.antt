@@ -26,9 +26,13 @@ filter_record-requires c = passed (goal.at.filter_record-requires c).In-Read
 pub put_lines-requires : goal.put_lines-requires
 put_lines-requires c =
     let a = c.args in
-    let is = c.filter_record.ensures.output in record {
-      rows_le_most_rows = output_sizes a.bytes.now a.readings.now a.output.now a.work.now (clear (goal.at.put_lines-requires c).In-Read) is;
-      by_index = output_clear a.bytes.now a.readings.now a.output.now a.work.now (clear (goal.at.put_lines-requires c).In-Read) is;
+    let is = c.filter_record.ensures.output in
+    let accepted = clear (goal.at.put_lines-requires c).In-Read in
+    let sizes = output_sizes a.bytes.now a.readings.now a.output.now a.work.now accepted is in record {
+      rows_fit = sizes.0;
+      columns_fit = sizes.1;
+      phases_there = sizes.2;
+      rows_clear = output_clear a.bytes.now a.readings.now a.output.now a.work.now accepted is;
     }
 
 pub returns-in-Refused : goal.returns-in-Refused

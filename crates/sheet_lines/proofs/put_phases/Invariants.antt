@@ -1,12 +1,8 @@
--- `sheet_lines::put_phases` meets its contract. Assumes nothing.
-use Prim.Native.Nat.{◌-◌, ◌≤◌}
-use lib.ListN.{length, take}
-use Rattle.text.specs.Text.{Laid}
+-- `sheet_lines::put_phases` meets its contract: the words of the phases so far are put. Assumes nothing.
+use Rattle.std.proofs.Common.{take}
+use Rattle.text.specs.Text.{Put}
 use Rattle.sheet_lines.specs.Lines.{phase_words}
 use Rattle.sheet_lines.proofs.put_phases.Given as goal
 
-abbrev pub invariant-loop-i : goal.invariant-loop-i
-invariant-loop-i l = (l.i ≤ length l.row) × Laid l.initial.text l.at (phase_words (take l.i l.row)) l.place l.text
-
-abbrev pub decreases-loop-i : goal.decreases-loop-i
-decreases-loop-i l = length l.row - l.i
+abbrev pub invariant-loop-phase : goal.invariant-loop-phase
+invariant-loop-phase l = Put l.initial.text (phase_words (take l.phase-index l.row)) l.text
