@@ -6,12 +6,11 @@ use Rattle.cycle.specs.Silence.{is_heard}
 use Rattle.median.specs.Sum.{share}
 use Rattle.memory.specs.Memory.{no_sum}
 
--- the first n readings of a line may be measured against those of a row; where it is said to be plain, what each gains is the distance
--- itself
-pub record Measurable (plain : Bool) (c : ℕ) (own row : List ℕ) (n : ℕ) : Type 0 where
-  pub own_long : n ≤ length own
-  pub row_long : n ≤ length row
-  pub plainly : plain ≡ true → (j : ℕ) → j < n → distance c (slice_index own j) (slice_index row j) ≡ share c (slice_index own j) (slice_index row j)
+-- the readings of a line may be measured against those of a row; where it is said to be plain, what each gains is the distance itself
+pub record Measurable (plain : Bool) (c : ℕ) (own row : List ℕ) : Type 0 where
+  pub row_long : length own ≤ length row
+  pub plainly : plain ≡ true → (j : ℕ) → j < length own
+      → distance c (slice_index own j) (slice_index row j) ≡ share c (slice_index own j) (slice_index row j)
 
 -- what the reading at place p of a line gains by the one at place k of a row
 abbrev pub of_line : ℕ → List ℕ → List ℕ → ℕ → ℕ → ℕ

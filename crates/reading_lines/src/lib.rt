@@ -5,7 +5,7 @@
 #![tactic(auto)]
 
 ghost use Rattle.std.specs.Prelude.{◌≡◌, ◌/◌, ◌≤◌, length};
-ghost use Rattle.memory.specs.Memory.{Each};
+ghost use Rattle.memory.specs.Memory.{Each, Changed};
 ghost use Rattle.memory.specs.Parts.{added, summed};
 ghost use Rattle.reading_lines.specs.Passes.{Measurable, between, between_two, stepped, moved, mark, marks};
 
@@ -15,11 +15,12 @@ use memory::NO_SUM;
 
 // What the readings of a line gain by those of a row.
 pub fn distances(cycle: u16, own: &[u16], row: &[u16], gains: &mut [u16], plain: bool)
-    requires { Measurable plain cycle own.now row.now (length gains.old) }
-    ensures { Each gains.new (between cycle own.now row.now) }
+    requires measurable { Measurable plain cycle own.now row.now }
+    requires room { length own.now ≤ length gains.old }
+    ensures { Changed gains.old gains.new 0 (length own.now) (between cycle own.now row.now) }
 {
-    for (j, gain) in gains.iter_mut().enumerate() {
-        *gain = share_of(cycle, own[j], row[j], plain);
+    for (j, q) in own.iter().enumerate() {
+        gains[j] = share_of(cycle, *q, row[j], plain);
     }
 }
 
@@ -32,12 +33,13 @@ pub fn distances_to_two(
     gains: &mut [u16],
     plain: bool,
 )
-    requires by_row { Measurable plain cycle own.now row.now (length gains.old) }
-    requires by_other { Measurable plain cycle own.now other.now (length gains.old) }
-    ensures { Each gains.new (between_two cycle own.now row.now other.now) }
+    requires by_row { Measurable plain cycle own.now row.now }
+    requires by_other { Measurable plain cycle own.now other.now }
+    requires room { length own.now ≤ length gains.old }
+    ensures { Changed gains.old gains.new 0 (length own.now) (between_two cycle own.now row.now other.now) }
 {
-    for (j, gain) in gains.iter_mut().enumerate() {
-        *gain = share_of(cycle, own[j], row[j], plain) + share_of(cycle, own[j], other[j], plain);
+    for (j, q) in own.iter().enumerate() {
+        gains[j] = share_of(cycle, *q, row[j], plain) + share_of(cycle, *q, other[j], plain);
     }
 }
 
@@ -51,15 +53,16 @@ pub fn steps(
     steps: &mut [u16],
     plain: bool,
 )
-    requires by_entering { Measurable plain cycle own.now entering.now (length steps.old) }
-    requires by_leaving { Measurable plain cycle own.now leaving.now (length steps.old) }
-    ensures { Each steps.new (stepped cycle own.now entering.now leaving.now) }
+    requires by_entering { Measurable plain cycle own.now entering.now }
+    requires by_leaving { Measurable plain cycle own.now leaving.now }
+    requires room { length own.now ≤ length steps.old }
+    ensures { Changed steps.old steps.new 0 (length own.now) (stepped cycle own.now entering.now leaving.now) }
 {
     let half = cycle / 2;
-    for (j, step) in steps.iter_mut().enumerate() {
-        let gain = share_of(cycle, own[j], entering[j], plain);
-        let loss = share_of(cycle, own[j], leaving[j], plain);
-        *step = half + gain - loss;
+    for (j, q) in own.iter().enumerate() {
+        let gain = share_of(cycle, *q, entering[j], plain);
+        let loss = share_of(cycle, *q, leaving[j], plain);
+        steps[j] = half + gain - loss;
     }
 }
 

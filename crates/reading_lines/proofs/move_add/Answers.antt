@@ -1,5 +1,4 @@
 use Rattle.std.proofs.Common.{arith}
-use Rattle.memory.specs.Parts.{summed}
 use Rattle.memory.proofs.Memory.{begun_more}
 use Rattle.reading_lines.specs.Passes.{moved}
 use Rattle.reading_lines.proofs.StepLaws.{moved-stored, summed-stored}
