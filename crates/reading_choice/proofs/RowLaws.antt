@@ -24,7 +24,7 @@ use Rattle.window.proofs.Sums.{each_block, in_block}
 use Rattle.window.proofs.Part.{part_empty, part-next, part_row, part-whole}
 use Rattle.window.proofs.Window.{padded-reading, heard_below, centre_at_in, centre_at_case, centre_at_reading, shares-small}
 use Rattle.window.proofs.Phase.{phase-at, phase-chosen, phase-none}
-use Rattle.lines.specs.Lines.{Line, Centres}
+use Rattle.lines.specs.Lines.{PaddedLine, Centres}
 use Rattle.reading_lines.proofs.Marks.{mark-none, mark-silent}
 use Rattle.reading_planes.specs.Sums.{reading_sum}
 use Rattle.reading_planes.proofs.Sums.{sum-signed}
@@ -77,7 +77,7 @@ module _ {s : Shape} {image : List ℕ} {i : ℕ} (ready : Ready longest_cycle s
 
   module _ {k l : ℕ} (hk : k < s.mask_rows) (hl : l < s.mask_columns) where
     -- the sums of a plane are signed numbers
-    pub plane_signed : (sums : List ℕ) {own : List ℕ} → Line s image (i + k) own
+    pub plane_signed : (sums : List ℕ) {own : List ℕ} → PaddedLine s image (i + k) own
         → ((j : ℕ) → j < s.columns → get_or sums j 0 ≡ reading_sum s image i (i + k) l j) → Signed (held sums) s.columns
     plane_signed sums x is j h =
         omega (arith, is j h, sum-signed ready x l j hl h hi)
@@ -109,7 +109,7 @@ module _ {s : Shape} {image : List ℕ} {i : ℕ} (ready : Ready longest_cycle s
           ∙ sym (keep_append is_heard (part 0 s image i j k l) (q ∷ [])) ∙ ap heard (part-next 0 s image i j k l)
 
     -- one reading more of every window
-    pub row_more : (sums part : List ℕ) {own centres best best' near near' : List ℕ} → Line s image (i + k) own → Centres s image i centres
+    pub row_more : (sums part : List ℕ) {own centres best best' near near' : List ℕ} → PaddedLine s image (i + k) own → Centres s image i centres
         → ((j : ℕ) → j < s.columns → get_or sums j 0 ≡ reading_sum s image i (i + k) l j)
         → ((j : ℕ) → j < s.columns → get_or part j 0 ≡ get_or own (l + j) 0)
         → Changed best best' 0 s.columns (kept_sum sums (ranked s.cycle centres part) best near)

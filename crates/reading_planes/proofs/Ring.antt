@@ -1,18 +1,20 @@
 -- The ring of planes: the planes of R rows of the padded image, one after the other, do not overlap. Assumes nothing.
 use Prim.Native.Nat.{ℕ, suc, ◌+◌, ◌*◌, ◌/◌, ◌%◌, ◌≤◌, ◌<◌}
-use mathlib.Core.Path.{◌≡◌, sym, ◌∙◌}
+use mathlib.Core.Path.{◌≡◌, refl, ap, sym, ◌∙◌}
 use mathlib.Core.Logic.{◌⊎◌, inl, inr}
 use mathlib.Core.List.{List}
 use native.Mathlib.Omega.{arith}
 use native.Mathlib.Decide.{dec_le, dec_lt, ℕ_discrete}
 use native.Mathlib.Nat.{mod-lt, div-add-mod, mul-le-mul_left, mul-le-mul_right, mul_assoc}
-use lib.ListN.{get_or}
+use lib.ListN.{length, get_or, take, drop}
+use borrow.Rule.Slice.PartMut.{put_mid}
 use Rattle.shape.specs.Need.{reading_need}
 use Rattle.shape.specs.declared.Shape.{Shape}
 use Rattle.memory.specs.Memory.{Outside}
+use Rattle.memory.proofs.Memory.{part-reads, changed_part, outside_part}
 use Rattle.window.proofs.Window.{spot_below}
 use Rattle.reading_planes.specs.Planes.{planes}
-use Rattle.reading_planes.specs.Sums.{place, LineSums, MaskSums}
+use Rattle.reading_planes.specs.Sums.{place, PlaneSums, LineSums, MaskSums}
 
 -- two of m numbers in a row leave different remainders
 ring_step : (m a b : ℕ) → a < b → b < a + m → a % m ≡ b % m → ⊥
@@ -92,3 +94,28 @@ pub sums_less : (s : Shape) (image : List ℕ) {w w' : List ℕ} (i lo hi : ℕ)
     → Outside w w' (place s lo) (planes s) → MaskSums s image i w' (lo + 1) hi
 sums_less s image i lo hi r p x a u v =
     line_kept s lo x (r a (omega arith) v) (ring_apart s.mask_rows lo a lo (omega arith) (omega arith) (omega arith) (omega arith) (omega arith))
+
+-- The planes of one position, lent as a part of the work memory: k numbers from `base` on.
+module _ {s : Shape} {image w : List ℕ} {i a : ℕ} (base k : ℕ) (start : base ≡ place s a) (count : k ≡ planes s) where
+  -- they hold the sums that were there
+  pub lent_sums : LineSums s image i w a → PlaneSums s image i a (take k (drop base w))
+  lent_sums x = record {
+    holds = λ l hl q hq.
+        let inside = spot_below s.mask_columns s.columns l q hl hq in
+        let there : base + (l * s.columns + q) ≡ place s a + l * s.columns + q = omega (arith, start) in
+        part-reads w base k (l * s.columns + q) (omega (arith, inside, count)) ∙ ap (λ (p : ℕ). get_or w p 0) there ∙ x.holds l hl q hq;
+  }
+
+  -- and are back with those that they hold then
+  pub sums_back : (part : List ℕ) → base + planes s ≤ length w → length part ≡ length (take k (drop base w)) → PlaneSums s image i a part
+      → LineSums s image i (put_mid base k w part) a × Outside w (put_mid base k w part) (place s a) (planes s)
+  sums_back part room len x = (
+    record {
+      holds = λ l hl q hq.
+          let inside = spot_below s.mask_columns s.columns l q hl hq in
+          let there : place s a + l * s.columns + q ≡ base + (l * s.columns + q) = omega (arith, start) in
+          let back = changed_part part room count len {f = λ p. get_or part p 0} (λ p h. refl) in
+          ap (λ (p : ℕ). get_or (put_mid base k w part) p 0) there ∙ back.holds (l * s.columns + q) inside ∙ x.holds l hl q hq;
+    },
+    outside_at start (outside_part part room count len),
+  )

@@ -3,6 +3,7 @@
 use Rattle.std.specs.Prelude.{ℕ, ◌+◌, ◌*◌, ◌%◌, ◌≤◌, ◌<◌, List}
 use Rattle.shape.specs.declared.Shape.{Shape}
 use Rattle.median.specs.Sum.{shares}
+use Rattle.memory.specs.Memory.{Holds}
 use Rattle.window.specs.Window.{padded, window}
 use Rattle.reading_lines.specs.Passes.{mark}
 use Rattle.reading_planes.specs.Planes.{planes, Plane}
@@ -15,9 +16,12 @@ place s a = a % s.mask_rows * planes s
 abbrev pub reading_sum : Shape → List ℕ → ℕ → ℕ → ℕ → ℕ → ℕ
 reading_sum s image i a l j = mark (padded 0 s image a (l + j)) + shares s.cycle (padded 0 s image a (l + j)) (window 0 s image i j)
 
--- the planes of position a hold the sums of row i
+-- the planes of position a hold the sums of row i: lent for themselves, and where they are in the work memory
+pub record PlaneSums (s : Shape) (image : List ℕ) (i a : ℕ) (planes : List ℕ) : Type 0 where
+  pub holds : (l : ℕ) → l < s.mask_columns → Plane s planes l (reading_sum s image i a l)
+
 pub record LineSums (s : Shape) (image : List ℕ) (i : ℕ) (w : List ℕ) (a : ℕ) : Type 0 where
-  pub holds : (l : ℕ) → l < s.mask_columns → Plane s w (place s a) l (reading_sum s image i a l)
+  pub holds : (l : ℕ) → l < s.mask_columns → Holds w (place s a + l * s.columns) s.columns (reading_sum s image i a l)
 
 -- so do those of the positions from lo up to hi
 abbrev pub MaskSums : Shape → List ℕ → ℕ → List ℕ → ℕ → ℕ → Type 0
