@@ -28,11 +28,11 @@ use Rattle.window.proofs.Sums.{change, sum_down, total_columns}
 use Rattle.lines.specs.Lines.{PaddedLine, line_length, padded_length}
 use Rattle.reading_lines.specs.Passes.{of_line, mark}
 use Rattle.reading_lines.proofs.Marks.{mark-none, mark-silent}
-use Rattle.reading_planes.specs.Planes.{Gain, of_rows, none, marked, whole, planes}
+use Rattle.reading_planes.specs.Planes.{Gain, of_rows, none, marked, whole, planes_length}
 use Rattle.reading_planes.specs.Sums.{place, reading_sum}
 
 -- a plane lies within the planes
-pub plane_within : (s : Shape) (l : ℕ) → l < s.mask_columns → l * s.columns + s.columns ≤ planes s
+pub plane_within : (s : Shape) (l : ℕ) → l < s.mask_columns → l * s.columns + s.columns ≤ planes_length s
 plane_within s l h = part_end l s.mask_columns s.columns h
 
 module _ (s : Shape) (clear : Clear (shape_rules longest_cycle s)) where
@@ -44,14 +44,14 @@ module _ (s : Shape) (clear : Clear (shape_rules longest_cycle s)) where
   line_room = omega (arith, sizes.columns_fit, sizes.mask_columns_fit)
 
   -- the planes of one position, and where they start, are small numbers
-  pub planes_fit : planes s ≤ most_mask_columns * most_columns
+  pub planes_fit : planes_length s ≤ most_mask_columns * most_columns
   planes_fit =
       mul-le-mul {n₁ = s.mask_columns} {m₁ = s.columns} {n₂ = most_mask_columns} {m₂ = most_columns} sizes.mask_columns_fit sizes.columns_fit
 
   pub place-fits : (a : ℕ) → place s a ≤ most_mask_rows * (most_mask_columns * most_columns)
   place-fits a =
       let h : a % s.mask_rows < s.mask_rows = mod-lt a (omega (arith, sizes.mask_rows_odd)) in
-      mul-le-mul {n₁ = a % s.mask_rows} {m₁ = planes s} {n₂ = most_mask_rows} {m₂ = most_mask_columns * most_columns}
+      mul-le-mul {n₁ = a % s.mask_rows} {m₁ = planes_length s} {n₂ = most_mask_rows} {m₂ = most_mask_columns * most_columns}
       (omega (arith, sizes.mask_rows_fit)) planes_fit
 
   -- places of a window lie within a line

@@ -25,7 +25,11 @@ none p k = 0
 abbrev pub net : Gain → Gain → ℕ → ℕ → ℕ → ℕ
 net gain loss p k n = difference (total_from (gain p) k n) (total_from (loss p) k n)
 
--- one turn: at n places from `start` on, the columns from `at` on are counted
+-- one turn over a part of the changes, that of the places from `start` on: the columns from `at` on are counted
+abbrev pub counted : Gain → Gain → ℕ → ℕ → List ℕ → ℕ → ℕ
+counted gain loss start at changes j = adjusted (slice_index changes j) (gain (start + j) (at + j)) (loss (start + j) (at + j))
+
+-- one turn over all changes: at n places from `start` on, the columns from `at` on are counted
 pub record Counted (gain loss : Gain) (start at n : ℕ) (change₀ change : List ℕ) : Type 0 where
   pub holds : Holds change start n (λ j. adjusted (slice_index change₀ (start + j)) (gain (start + j) (at + j)) (loss (start + j) (at + j)))
 
@@ -38,8 +42,8 @@ pub record Behind (s : Shape) (gain loss : Gain) (change : List ℕ) (l : ℕ) :
   pub holds : Holds change l (s.columns + s.mask_columns - 1 - l) (λ j. net gain loss (l + j) j l)
 
 -- the numbers of a line's planes
-abbrev pub planes : Shape → ℕ
-planes s = s.mask_columns * s.columns
+abbrev pub planes_length : Shape → ℕ
+planes_length s = s.mask_columns * s.columns
 
 -- plane l of the planes holds f 0, f 1, ..
 abbrev pub Plane : Shape → List ℕ → ℕ → (ℕ → ℕ) → Type 0

@@ -6,11 +6,11 @@ use Rattle.median.specs.Sum.{shares}
 use Rattle.memory.specs.Memory.{Holds}
 use Rattle.window.specs.Window.{padded, window}
 use Rattle.reading_lines.specs.Passes.{mark}
-use Rattle.reading_planes.specs.Planes.{planes, Plane}
+use Rattle.reading_planes.specs.Planes.{planes_length, Plane}
 
 -- where the planes of the row at position a are
 abbrev pub place : Shape → ℕ → ℕ
-place s a = a % s.mask_rows * planes s
+place s a = a % s.mask_rows * planes_length s
 
 -- the sum of the window of row i and column j at the reading of position a and place l + j; no sum if that reading is silent
 abbrev pub reading_sum : Shape → List ℕ → ℕ → ℕ → ℕ → ℕ → ℕ

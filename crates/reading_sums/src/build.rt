@@ -1,122 +1,115 @@
-// Planes built afresh, from every row under the mask. Functions here take more than ten parameters: lines are
-// lent one by one.
-ghost use Rattle.std.specs.Prelude.{◌+◌, ◌-◌, ◌≤◌, ◌<◌, length};
-ghost use Rattle.refusal.specs.Limits.{longest_cycle};
-ghost use Rattle.memory.specs.Memory.{Changed, Outside};
-ghost use Rattle.window.specs.Ready.{Ready};
-ghost use Rattle.lines.specs.Lines.{IsLine, Reads, Line};
-ghost use Rattle.reading_planes.specs.Planes.{of_rows, none, marked, Counted, Behind, Fronts, planes, gained};
+// Planes built afresh, from every row under the mask.
+ghost use Rattle.std.specs.Prelude.{◌≡◌, ◌+◌, ◌-◌, ◌<◌, length};
+ghost use Rattle.memory.specs.Memory.{Each};
+ghost use Rattle.lines.specs.Lines.{Reads, PaddedLine};
+ghost use Rattle.reading_planes.specs.Planes.{of_rows, none, marked, counted, Behind, Fronts, planes_length, gained};
 
-use lines::pad;
+use crate::{Changes, Lines};
+use lines::Image;
 use median::is_short;
-use memory::{add, put};
+use memory::add;
 use reading_lines::{begin, distances, distances_to_two, grow};
-use shape::Shape;
 
 // Counts, over all mask rows of row i, the columns from `at` on at the places from `start` on: two rows at a
-// time, and `last`, the last one, alone, since the mask rows are odd in number.
+// time, and the last one alone, since the mask rows are odd in number.
 fn count_rows(
-    shape: Shape,
-    image: &[u16],
+    image: &Image,
     i: usize,
-    own: &[u16],
     start: usize,
     at: usize,
-    last: &[u16],
-    row: &mut [u16],
-    other: &mut [u16],
-    change: &mut [u32],
-    step: &mut [u16],
+    changes: &mut [u32],
+    lines: &mut Lines,
 )
-    requires ready { Ready longest_cycle shape image.now × (i < shape.rows) × (start + at < shape.mask_columns) }
-    requires reads { Reads shape own.now × Line shape image.now (i + shape.mask_rows - 1) last.now }
-    requires line { IsLine row.old × IsLine other.old × IsLine change.old × IsLine step.old }
-    ensures { Counted (of_rows shape image.now i own.now) none start at (shape.columns + (shape.mask_columns - 1 - (start + at)))
-        change.old change.new }
+    requires row { i < image.now.shape.rows }
+    requires offset { start + at < image.now.shape.mask_columns }
+    requires rest_of_line { length changes.old ≡ image.now.shape.columns + (image.now.shape.mask_columns - 1 - (start + at)) }
+    requires own_reads { Reads image.now.shape lines.old.own }
+    requires last_row { PaddedLine image.now.shape image.now.readings.now (i + image.now.shape.mask_rows - 1) lines.old.last }
+    ensures counted { Each changes.new
+        (counted (of_rows image.now.shape image.now.readings.now i lines.old.own) none start at changes.old) }
+    ensures own_kept { lines.new.own ≡ lines.old.own }
+    ensures last_kept { lines.new.last ≡ lines.old.last }
 {
-    let cycle = shape.cycle as u16;
-    let plain = is_short(shape.cycle);
-    let rows = shape.mask_rows as usize;
-    let n = shape.columns as usize + (shape.mask_columns as usize - 1 - (start + at));
-    let mut k = 0;
-    while k + 1 < rows {
-        pad(shape, image, i + k, row);
-        pad(shape, image, i + k + 1, other);
-        distances_to_two(cycle, own, start, row, other, at, step, n, plain);
-        grow(change, start, step, n);
-        k += 2;
+    let cycle = image.shape.cycle as u16;
+    let plain = is_short(image.shape.cycle);
+    let n = changes.len();
+    for pair in 0..image.shape.mask_rows as usize / 2 {
+        let top = i + 2 * pair;
+        image.pad(top, &mut lines.row);
+        image.pad(top + 1, &mut lines.other);
+        distances_to_two(
+            cycle,
+            &lines.own[start..start + n],
+            &lines.row[at..at + n],
+            &lines.other[at..at + n],
+            &mut lines.steps,
+            plain,
+        );
+        grow(changes, &lines.steps[..n]);
     }
-    distances(cycle, own, start, last, at, step, n, plain);
-    grow(change, start, step, n);
+    distances(
+        cycle,
+        &lines.own[start..start + n],
+        &lines.last[at..at + n],
+        &mut lines.steps,
+        plain,
+    );
+    grow(changes, &lines.steps[..n]);
 }
 
 // The sweep ahead, over every plane of the readings of `own`.
 pub fn build_ahead(
-    shape: Shape,
-    image: &[u16],
+    image: &Image,
     i: usize,
-    work: &mut [u32],
-    base: usize,
-    own: &[u16],
-    last: &[u16],
-    row: &mut [u16],
-    other: &mut [u16],
-    change: &mut [u32],
-    step: &mut [u16],
+    planes: &mut [u32],
+    changes: &mut Changes,
+    lines: &mut Lines,
 )
-    requires ready { Ready longest_cycle shape image.now × (i < shape.rows) × (base + planes shape ≤ length work.old) }
-    requires reads { Reads shape own.now × Line shape image.now (i + shape.mask_rows - 1) last.now }
-    requires line { IsLine row.old × IsLine other.old × IsLine change.old × IsLine step.old }
-    ensures fronts { Fronts shape work.new base (marked own.now) (of_rows shape image.now i own.now) none 0 }
-    ensures outside { Outside work.old work.new base (planes shape) }
+    requires row { i < image.now.shape.rows }
+    requires all_planes { length planes.old ≡ planes_length image.now.shape }
+    requires own_reads { Reads image.now.shape lines.old.own }
+    requires last_row { PaddedLine image.now.shape image.now.readings.now (i + image.now.shape.mask_rows - 1) lines.old.last }
+    ensures fronts { Fronts image.now.shape planes.new (marked lines.old.own)
+        (of_rows image.now.shape image.now.readings.now i lines.old.own) none 0 }
+    ensures own_kept { lines.new.own ≡ lines.old.own }
+    ensures last_kept { lines.new.last ≡ lines.old.last }
 {
-    let columns = shape.columns as usize;
-    let mask = shape.mask_columns as usize;
-    begin(change, own, columns + mask);
-    let mut m = 0;
-    while m < mask {
+    let columns = image.shape.columns as usize;
+    let mask = image.shape.mask_columns as usize;
+    begin(&mut changes[..columns + mask], &lines.own);
+    for m in 0..mask {
         let l = mask - 1 - m;
-        count_rows(shape, image, i, own, 0, m, last, row, other, change, step);
-        put(work, base + l * columns, change, l, columns);
-        m += 1;
+        let start = l * columns;
+        count_rows(image, i, 0, m, &mut changes[..columns + l], lines);
+        planes[start..start + columns].copy_from_slice(&changes[l..l + columns]);
     }
 }
 
 // One turn of the sweep behind: plane l + 1, from the changes of plane l.
 pub fn build_on(
-    shape: Shape,
-    image: &[u16],
+    image: &Image,
     i: usize,
-    work: &mut [u32],
-    plane: usize,
     l: usize,
-    own: &[u16],
-    last: &[u16],
-    row: &mut [u16],
-    other: &mut [u16],
-    change: &mut [u32],
-    step: &mut [u16],
+    plane: &mut [u32],
+    changes: &mut Changes,
+    lines: &mut Lines,
 )
-    requires ready { Ready longest_cycle shape image.now × (i < shape.rows) × (l + 1 < shape.mask_columns) × (plane + shape.columns ≤ length work.old) }
-    requires reads { Reads shape own.now × Line shape image.now (i + shape.mask_rows - 1) last.now }
-    requires line { IsLine row.old × IsLine other.old × IsLine change.old × IsLine step.old }
-    requires behind { Behind shape (of_rows shape image.now i own.now) none change.old l }
-    ensures behind_2 { Behind shape (of_rows shape image.now i own.now) none change.new (l + 1) }
-    ensures changed { Changed work.old work.new plane shape.columns
-        (gained work.old plane (of_rows shape image.now i own.now) none (l + 1)) }
+    requires row { i < image.now.shape.rows }
+    requires inside { l + 1 < image.now.shape.mask_columns }
+    requires one_plane { length plane.old ≡ image.now.shape.columns }
+    requires own_reads { Reads image.now.shape lines.old.own }
+    requires last_row { PaddedLine image.now.shape image.now.readings.now (i + image.now.shape.mask_rows - 1) lines.old.last }
+    requires behind { Behind image.now.shape (of_rows image.now.shape image.now.readings.now i lines.old.own) none changes.old l }
+    ensures behind_next { Behind image.now.shape (of_rows image.now.shape image.now.readings.now i lines.old.own) none
+        changes.new (l + 1) }
+    ensures gained { Each plane.new
+        (gained plane.old (of_rows image.now.shape image.now.readings.now i lines.old.own) none (l + 1)) }
+    ensures own_kept { lines.new.own ≡ lines.old.own }
+    ensures last_kept { lines.new.last ≡ lines.old.last }
 {
-    count_rows(
-        shape,
-        image,
-        i,
-        own,
-        l + 1,
-        0,
-        last,
-        row,
-        other,
-        change,
-        step,
-    );
-    add(work, plane, change, l + 1, shape.columns as usize);
+    let columns = image.shape.columns as usize;
+    let start = l + 1;
+    let n = columns + image.shape.mask_columns as usize - 1 - start;
+    count_rows(image, i, start, 0, &mut changes[start..start + n], lines);
+    add(plane, &changes[start..start + columns]);
 }

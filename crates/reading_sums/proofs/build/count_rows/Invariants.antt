@@ -1,14 +1,13 @@
--- `reading_sums::build::count_rows` meets its contract: after k rows, an even number of them, the changes count those k; the last row,
--- which the loop leaves over, is the one lent as `last`. Assumes nothing.
-use Prim.Native.Nat.{◌-◌, ◌%◌, ◌<◌}
+-- `reading_sums::build::count_rows` meets its contract: after k pairs of rows the changes count those 2 k rows; the last row, which the
+-- loop leaves over, is the one of `last`. Assumes nothing.
+use Prim.Native.Nat.{◌*◌}
 use mathlib.Core.Path.{◌≡◌}
-use Rattle.lines.specs.Lines.{IsLine}
 use Rattle.reading_sums.proofs.Turns.{Rows}
 use Rattle.reading_sums.proofs.build.count_rows.Given as goal
 
-abbrev pub invariant-loop-k : goal.invariant-loop-k
-invariant-loop-k l = (l.k < l.shape.mask_rows) × (l.k % 2 ≡ 0) × Rows l.shape l.image l.i l.own l.start l.at l.n l.k l.initial.change l.change
-    × IsLine l.row × IsLine l.other × IsLine l.change × IsLine l.step
-
-abbrev pub decreases-loop-k : goal.decreases-loop-k
-decreases-loop-k l = l.shape.mask_rows - l.k
+abbrev pub invariant-loop-pair : goal.invariant-loop-pair
+invariant-loop-pair l = record {
+  rows : Rows l.image.shape l.image.readings.now l.i l.initial.lines.own l.start l.at (2 * l.pair) l.initial.changes l.changes;
+  own_kept : l.lines.own ≡ l.initial.lines.own;
+  last_kept : l.lines.last ≡ l.initial.lines.last;
+}
