@@ -1,6 +1,6 @@
--- `lines::heard_or` meets its contract. Assumes nothing.
+-- `lines::centres::heard_or` meets its contract. Assumes nothing.
 use Rattle.cycle.proofs.SilenceLaws.{unheard, not_silent}
-use Rattle.lines.proofs.heard_or.Goals as goal
+use Rattle.lines.proofs.centres.heard_or.Goals as goal
 
 pub returns-then-centre-eq-SILENT : goal.returns-then-centre-eq-SILENT
 returns-then-centre-eq-SILENT c = rw (unheard _ c.if-centre-eq-SILENT.true)
