@@ -2,8 +2,7 @@
 -- each tells its tick. Assumes nothing.
 use Rattle.std.proofs.Common.{◌≡◌, ℕ, ◌+◌, ◌-◌, ◌*◌, ◌/◌, ◌%◌, ◌^◌, ◌<◌, ◌≤◌, min, Bool, true, false, cond, not, eqb, leb, sym, ap, ◌∙◌, mod-lt, mod-eq_of_lt, arith, eq-eqb, ne_eqb, le-leb}
 use mir.Val.{bool_byte}
-use native.Mathlib.Decide.{dec_le, dec_lt, ℕ_discrete}
-use native.Mathlib.Nat.{add-mod_right}
+use native.Mathlib.Decide.{dec_le, ℕ_discrete}
 use borrow.Author.Tests.{lt-leb}
 use Rattle.refusal.specs.Limits.{longest_cycle}
 use Rattle.cycle.specs.Distance.{distance}

@@ -6,13 +6,12 @@
 
 mod best;
 
-pub use best::Best;
-
 ghost use Rattle.std.specs.Prelude.{◌≡◌, ◌-◌, ◌/◌, ◌%◌, ◌<◌, ◌≤◌, true, if◌then◌else◌, nat_eq, nat_le};
 ghost use Rattle.refusal.specs.Limits.{longest_cycle};
 ghost use Rattle.cycle.specs.Silence.{silent, is_heard, is_reading};
 ghost use Rattle.reading_choice.specs.Ranks.{way_to, rank_of, tick_of, phase_by};
 
+pub use best::Best;
 use cycle::SILENT;
 
 // The cycle to add to q - a, so that it counts ticks ahead: none where q is not behind a.

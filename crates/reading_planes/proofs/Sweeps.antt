@@ -59,16 +59,17 @@ module _ (s : Shape) (gain loss : Gain) where
   pub behind-none : {z₀ z : List ℕ} → Changed z₀ z 0 (s.columns + s.mask_columns) zeros → Behind s gain loss z 0
   behind-none c = record { holds = λ j h. c.holds j (omega arith) ∙ sym (net-none gain loss (0 + j) j) }
 
-  pub behind_more : {z₀ z : List ℕ} (l : ℕ) → l + 1 < s.mask_columns → Behind s gain loss z₀ l
-      → Counted gain loss (l + 1) 0 (s.columns + (s.mask_columns - 1 - (l + 1))) z₀ z → Behind s gain loss z (l + 1)
-  behind_more {z₀} {z} l h b c = record { holds = at }
+  pub behind_more : {z₀ z : List ℕ} (l : ℕ) → 0 < l → l < s.mask_columns → Behind s gain loss z₀ (l - 1)
+      → Counted gain loss l 0 (s.columns + (s.mask_columns - 1 - l)) z₀ z → Behind s gain loss z l
+  behind_more {z₀} {z} l some h b c = record { holds = at }
     where
-      at : (j : ℕ) → j < s.columns + s.mask_columns - 1 - (l + 1) → get_or z (l + 1 + j) 0 ≡ net gain loss (l + 1 + j) j (l + 1)
+      at : (j : ℕ) → j < s.columns + s.mask_columns - 1 - l → get_or z (l + j) 0 ≡ net gain loss (l + j) j l
       at j g =
-          let e : l + (j + 1) ≡ l + 1 + j = omega arith in
+          let e : l - 1 + (j + 1) ≡ l + j = omega arith in
           let d : 0 + j ≡ j = omega arith in
-          let old : get_or z₀ (l + 1 + j) 0 ≡ net gain loss (l + 1 + j) (j + 1) l = rw e at (b.holds (j + 1) (omega arith)) in
-          c.holds j (omega arith) ∙ rw (old, d) (net-before gain loss (l + 1 + j) j l)
+          let n : l - 1 + 1 ≡ l = omega arith in
+          let old : get_or z₀ (l + j) 0 ≡ net gain loss (l + j) (j + 1) (l - 1) = rw e at (b.holds (j + 1) (omega arith)) in
+          c.holds j (omega arith) ∙ rw (old, d) (net-before gain loss (l + j) j (l - 1) ∙ ap (net gain loss (l + j) j) n)
 
   module _ (start : Gain) where
     -- one plane more after the sweep ahead: `f` is what was stored there

@@ -1,11 +1,11 @@
 -- One turn of a sweep: what the passes leave is that the columns at one offset are counted. The passes are lent parts of the lines: k numbers
 -- of a line from place `start` on are `take k (drop start line)`. Assumes nothing.
-use Prim.Native.Nat.{ℕ, ◌+◌, ◌-◌, ◌*◌, ◌/◌, ◌%◌, ◌^◌, ◌≤◌, ◌<◌}
+use Prim.Native.Nat.{ℕ, ◌+◌, ◌-◌, ◌/◌, ◌^◌, ◌≤◌, ◌<◌}
 use mathlib.Core.Path.{◌≡◌, refl, ap, sym, ◌∙◌}
 use mathlib.Core.List.{List}
 use native.Mathlib.Omega.{arith}
 use native.Mathlib.Decide.{dec_lt}
-use lib.ListN.{length, get_or, take, drop}
+use lib.ListN.{length, get_or, take, drop, replicate}
 use borrow.Rule.Slice.PartMut.{put_mid}
 use Rattle.std.proofs.lemmas.List.{length-take, length-drop}
 use Rattle.lists.specs.Tabulate.{tabulate}
@@ -16,13 +16,18 @@ use Rattle.shape.specs.declared.Shape.{Shape}
 use Rattle.median.specs.Sum.{share, shares}
 use Rattle.median.proofs.Sum.{share_half}
 use Rattle.memory.specs.Memory.{Each, Changed}
-use Rattle.memory.specs.Parts.{added}
-use Rattle.memory.proofs.Memory.{changed_first, changed_is, changed_part, part-reads}
+use Rattle.memory.specs.Parts.{added, zeros}
+use Rattle.memory.proofs.Memory.{changed_first, changed_is, changed_part, part-reads, each_filled}
 use Rattle.window.specs.Window.{padded}
 use Rattle.lines.specs.Lines.{PaddedLine, padded_length}
 use Rattle.reading_lines.specs.Passes.{of_line, stepped, moved, between, between_two}
 use Rattle.reading_lines.proofs.StepLaws.{moved-step}
 use Rattle.reading_planes.specs.Planes.{Counted, counted, of_rows, none}
+
+-- the first n changes, filled with zeros
+pub cleared : {z : List ℕ} (n : ℕ) (front : List ℕ) → n ≤ length z → length front ≡ length (take n z) → front ≡ replicate (length (take n z)) 0
+    → Changed z (put_mid 0 n z front) 0 n zeros
+cleared {z} n front room len e = changed_part front (omega arith) refl len (each_filled _ e)
 
 -- what a part of the changes is once the first n of its numbers are counted, so is the line
 pub counted-part : {gain loss : ℕ → ℕ → ℕ} {z : List ℕ} (start at base k n : ℕ) (part : List ℕ) → base ≡ start → base + n ≤ length z → k ≡ n
@@ -51,17 +56,17 @@ pub moved-part : {z : List ℕ} (steps : List ℕ) (half base k n from m : ℕ) 
     → Changed z (put_mid base k z part) base n (λ j. adjusted (get_or z (base + j) 0) (get_or steps (from + j) 0) half)
 moved-part {z} steps half base k n from m part room e long len each =
     changed_is _ (changed_part part room e len each) (λ j h.
-        let u : j < k = omega arith in
-        let v : j < m = omega arith in
-        rw (part-reads z base k j u, part-reads steps from m j v))
+    let u : j < k = omega arith in
+    let v : j < m = omega arith in
+    rw (part-reads z base k j u, part-reads steps from m j v))
 
 -- the steps at n places, moved on in two parts
-pub counted-steps : (c : ℕ) (own entering leaving : List ℕ) (start at a b : ℕ) {n next : ℕ} {steps z₀ z₁ z₂ : List ℕ} → n ≡ a + b → next ≡ start + a
+pub counted-steps : (c : ℕ) (own entering leaving steps : List ℕ) (start at a b : ℕ) {n next : ℕ} {z₀ z₁ z₂ : List ℕ} → n ≡ a + b → next ≡ start + a
     → ((j : ℕ) → j < n → get_or steps j 0 ≡ c / 2 + of_line c own entering (start + j) (at + j) - of_line c own leaving (start + j) (at + j))
     → Changed z₀ z₁ start a (λ j. adjusted (get_or z₀ (start + j) 0) (get_or steps (0 + j) 0) (c / 2))
     → Changed z₁ z₂ next b (λ j. adjusted (get_or z₁ (next + j) 0) (get_or steps (a + j) 0) (c / 2))
     → Counted (of_line c own entering) (of_line c own leaving) start at n z₀ z₂
-counted-steps c own entering leaving start at a b {n} {next} {steps} {z₀} {z₁} {z₂} e d s x y = record { holds = λ j h. go j h (dec_lt j a) }
+counted-steps c own entering leaving steps start at a b {n} {next} {z₀} {z₁} {z₂} e d s x y = record { holds = λ j h. go j h (dec_lt j a) }
   where
     one : (p j i : ℕ) → i ≡ j → j < n → adjusted (get_or z₀ p 0) (get_or steps i 0) (c / 2)
         ≡ adjusted (get_or z₀ p 0) (of_line c own entering (start + j) (at + j)) (of_line c own leaving (start + j) (at + j))
@@ -89,59 +94,58 @@ module _ {s : Shape} {image : List ℕ} {i : ℕ} {own : List ℕ} {start at : �
     holds = λ j h. rw (total-none (share s.cycle (get_or own (start + j) 0))) (sym (adjusted-none _ (fit j)));
   }
 
-  module _ {z₀ z z' gains₀ gains : List ℕ} (k g : ℕ) (r : Rows s image i own start at k z₀ z) (fits : at + length z₀ ≤ padded_length s)
-      (room : start + length z₀ ≤ length own) (long : length z₀ ≤ g) (len : length z' ≡ length z) (grown : Each z' (added z (take g gains))) where
-    -- numbers added that are what more rows add
-    rows_added : (m : ℕ) → ((j : ℕ) → j < length z₀ → shares s.cycle (get_or own (start + j) 0) (tabulate (λ a. padded 0 s image a (at + j)) i m)
-        ≡ shares s.cycle (get_or own (start + j) 0) (tabulate (λ a. padded 0 s image a (at + j)) i k) + get_or gains j 0)
-        → Rows s image i own start at m z₀ z'
-    rows_added m e = record {
-      len = len ∙ r.len;
-      holds = λ j h.
-          let inside : j < g = omega (arith, len, r.len) in
-          grown j h ∙ rw (part-reads gains 0 g j inside) (added-read j (0 + j) (omega arith) (omega (arith, len, r.len)));
-    }
-      where
-        added-read : (j p : ℕ) → p ≡ j → j < length z₀
-            → adjusted (get_or z j 0) (get_or gains p 0) 0
-            ≡ adjusted (get_or z₀ j 0) (shares s.cycle (get_or own (start + j) 0) (tabulate (λ a. padded 0 s image a (at + j)) i m)) 0
-        added-read j p u h = rw (u, r.holds j (omega (arith, r.len)), e j h) (adjusted_twice _ _ _)
+  -- numbers added that are what more rows add
+  rows_added : {z₀ z z' : List ℕ} (gains : List ℕ) (k m g : ℕ) → Rows s image i own start at k z₀ z → length z₀ ≤ g → length z' ≡ length z
+      → Each z' (added z (take g gains))
+      → ((j : ℕ) → j < length z₀ → shares s.cycle (get_or own (start + j) 0) (tabulate (λ a. padded 0 s image a (at + j)) i m)
+      ≡ shares s.cycle (get_or own (start + j) 0) (tabulate (λ a. padded 0 s image a (at + j)) i k) + get_or gains j 0)
+      → Rows s image i own start at m z₀ z'
+  rows_added {z₀} {z} {z'} gains k m g r long len grown e = record {
+    len = len ∙ r.len;
+    holds = λ j h.
+        let inside : j < g = omega (arith, len, r.len) in
+        grown j h ∙ rw (part-reads gains 0 g j inside) (at-place j (0 + j) (omega arith) (omega (arith, len, r.len)));
+  }
+    where
+      at-place : (j p : ℕ) → p ≡ j → j < length z₀
+          → adjusted (get_or z j 0) (get_or gains p 0) 0
+          ≡ adjusted (get_or z₀ j 0) (shares s.cycle (get_or own (start + j) 0) (tabulate (λ a. padded 0 s image a (at + j)) i m)) 0
+      at-place j p u h = rw (u, r.holds j (omega (arith, r.len)), e j h) (adjusted_twice _ _ _)
 
-    module _ (n m : ℕ) (same : length z₀ ≤ n) (wide : length z₀ ≤ m) where
-      -- the part of the line, and how long it is
-      own-part : length z₀ ≤ length (take n (drop start own))
-      own-part = omega (arith, length-take n (drop start own), length-drop start own)
+  module _ {z₀ z z' gains₀ gains : List ℕ} (k n : ℕ) (r : Rows s image i own start at k z₀ z) (same : length z₀ ≡ n)
+      (fits : at + n ≤ padded_length s) (room : start + n ≤ length own) (len : length z' ≡ length z) (g u v : ℕ) (e : g ≡ n) (a : u ≡ n) (b : v ≡ n)
+      (grown : Each z' (added z (take g gains))) where
+    -- one row
+    pub rows_one : {row : List ℕ} → PaddedLine s image (i + k) row
+        → Changed gains₀ gains 0 (length (take u (drop start own))) (between s.cycle (take u (drop start own)) (take v (drop at row)))
+        → Rows s image i own start at (k + 1) z₀ z'
+    rows_one {row} x d = rows_added gains k (k + 1) g r (omega arith) len grown (λ j h.
+        let p : j < u = omega arith in
+        let q : j < v = omega arith in
+        total_more (share s.cycle (get_or own (start + j) 0)) (λ a. padded 0 s image a (at + j)) i k
+        ∙ ap (λ (t : ℕ). shares s.cycle (get_or own (start + j) 0) (tabulate (λ a. padded 0 s image a (at + j)) i k) + t)
+        (sym (changed_first d j (omega (arith, length-take u (drop start own), length-drop start own))
+        ∙ rw (part-reads own start u j p, part-reads row at v j q, x.holds (at + j) (omega arith)))))
 
-      -- one row
-      pub rows_one : {row : List ℕ} → PaddedLine s image (i + k) row
-          → Changed gains₀ gains 0 (length (take n (drop start own))) (between s.cycle (take n (drop start own)) (take m (drop at row)))
-          → Rows s image i own start at (k + 1) z₀ z'
-      rows_one {row} x d = rows_added (k + 1) (λ j h.
-          let u : j < n = omega arith in
-          let v : j < m = omega arith in
-          total_more (share s.cycle (get_or own (start + j) 0)) (λ a. padded 0 s image a (at + j)) i k
-          ∙ ap (λ (t : ℕ). shares s.cycle (get_or own (start + j) 0) (tabulate (λ a. padded 0 s image a (at + j)) i k) + t)
-          (sym (changed_first d j (omega (arith, own-part)) ∙ rw (part-reads own start n j u, part-reads row at m j v, x.holds (at + j) (omega arith)))))
-
-      -- two rows
-      pub rows_two : {row other : List ℕ} → PaddedLine s image (i + k) row → PaddedLine s image (i + k + 1) other
-          → Changed gains₀ gains 0 (length (take n (drop start own)))
-          (between_two s.cycle (take n (drop start own)) (take m (drop at row)) (take m (drop at other)))
-          → Rows s image i own start at (k + 2) z₀ z'
-      rows_two {row} {other} x y d = rows_added (k + 2) (λ j h.
-          let u : j < n = omega arith in
-          let v : j < m = omega arith in
-          let q = get_or own (start + j) 0 in
-          let column : ℕ → ℕ = λ a. padded 0 s image a (at + j) in
-          let two : k + 1 + 1 ≡ k + 2 = omega arith in
-          let next : i + (k + 1) ≡ i + k + 1 = omega arith in
-          let first = total_more (share s.cycle q) column i k in
-          let second : shares s.cycle q (tabulate column i (k + 2)) ≡ shares s.cycle q (tabulate column i (k + 1)) + share s.cycle q (column (i + k + 1)) =
-          rw two at (rw next at (total_more (share s.cycle q) column i (k + 1))) in
-          let here : get_or gains j 0 ≡ share s.cycle q (column (i + k)) + share s.cycle q (column (i + k + 1)) =
-          changed_first d j (omega (arith, own-part))
-          ∙ rw (part-reads own start n j u, part-reads row at m j v, part-reads other at m j v, x.holds (at + j) (omega arith), y.holds (at + j) (omega arith)) in
-          omega (arith, first, second, here))
+    -- two rows
+    pub rows_two : {row other : List ℕ} → PaddedLine s image (i + k) row → PaddedLine s image (i + k + 1) other
+        → Changed gains₀ gains 0 (length (take u (drop start own)))
+        (between_two s.cycle (take u (drop start own)) (take v (drop at row)) (take v (drop at other)))
+        → Rows s image i own start at (k + 2) z₀ z'
+    rows_two {row} {other} x y d = rows_added gains k (k + 2) g r (omega arith) len grown (λ j h.
+        let p : j < u = omega arith in
+        let q : j < v = omega arith in
+        let z = get_or own (start + j) 0 in
+        let column : ℕ → ℕ = λ a. padded 0 s image a (at + j) in
+        let two : k + 1 + 1 ≡ k + 2 = omega arith in
+        let next : i + (k + 1) ≡ i + k + 1 = omega arith in
+        let first = total_more (share s.cycle z) column i k in
+        let second : shares s.cycle z (tabulate column i (k + 2)) ≡ shares s.cycle z (tabulate column i (k + 1)) + share s.cycle z (column (i + k + 1)) =
+        rw two at (rw next at (total_more (share s.cycle z) column i (k + 1))) in
+        let here : get_or gains j 0 ≡ share s.cycle z (column (i + k)) + share s.cycle z (column (i + k + 1)) =
+        changed_first d j (omega (arith, length-take u (drop start own), length-drop start own))
+        ∙ rw (part-reads own start u j p, part-reads row at v j q, part-reads other at v j q, x.holds (at + j) (omega arith), y.holds (at + j) (omega arith)) in
+        omega (arith, first, second, here))
 
   -- all of them
   pub rows_counted : {z₀ z : List ℕ} {k : ℕ} → k ≡ s.mask_rows → Rows s image i own start at k z₀ z

@@ -8,24 +8,9 @@
 mod build;
 mod carry;
 
-pub use build::{build_ahead, build_on};
-pub use carry::{carry_ahead, carry_on};
-
-use lines::{LINE, Line};
-
-// Lines that a sweep goes over, and memory for the steps of one.
-#[derive(Drop)]
-pub struct Lines {
-    // The readings whose planes are swept.
-    pub own: Line,
-    // The last row of the windows, which enters them.
-    pub last: Line,
-    // The row that leaves the windows, or one that is counted.
-    pub row: Line,
-    // Another one that is counted.
-    pub other: Line,
-    pub steps: Line,
-}
+pub use build::Built;
+pub use carry::Carried;
+use lines::LINE;
 
 // The changes that a sweep makes at the places of a line, modulo 2^32.
 pub type Changes = [u32; LINE];

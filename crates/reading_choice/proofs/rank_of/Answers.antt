@@ -1,5 +1,5 @@
 -- `reading_choice::rank_of` meets its contract. Assumes nothing.
-use Rattle.std.proofs.Common.{ℕ, ap, ◌∙◌}
+use Rattle.std.proofs.Common.{ap, ◌∙◌}
 use Rattle.reading_choice.specs.Ranks.{rank_by}
 use Rattle.reading_choice.proofs.RankLaws.{rank_by_code}
 use Rattle.reading_choice.proofs.rank_of.Goals as goal
