@@ -109,13 +109,14 @@ module _ {s : Shape} {image : List ℕ} {i : ℕ} (ready : Ready longest_cycle s
           ∙ sym (keep_append is_heard (part 0 s image i j k l) (q ∷ [])) ∙ ap heard (part-next 0 s image i j k l)
 
     -- one reading more of every window
-    pub row_more : (sums part : List ℕ) {own centres best best' near near' : List ℕ} → PaddedLine s image (i + k) own → Centres s image i centres
+    pub row_more : (sums readings centres : List ℕ) {own best best' near near' : List ℕ} → PaddedLine s image (i + k) own
+        → ((j : ℕ) → j < s.columns → get_or centres j 0 ≡ centre_at s image i j)
         → ((j : ℕ) → j < s.columns → get_or sums j 0 ≡ reading_sum s image i (i + k) l j)
-        → ((j : ℕ) → j < s.columns → get_or part j 0 ≡ get_or own (l + j) 0)
-        → Changed best best' 0 s.columns (kept_sum sums (ranked s.cycle centres part) best near)
-        → Changed near near' 0 s.columns (kept_rank sums (ranked s.cycle centres part) best near)
+        → ((j : ℕ) → j < s.columns → get_or readings j 0 ≡ get_or own (l + j) 0)
+        → Changed best best' 0 s.columns (kept_sum sums (ranked s.cycle centres readings) best near)
+        → Changed near near' 0 s.columns (kept_rank sums (ranked s.cycle centres readings) best near)
         → RowWeighed s image i k l best near → RowWeighed s image i k (l + 1) best' near'
-    row_more sums part {own} {centres} x y is own-part b n w = record {
+    row_more sums readings centres {own} x y is same b n w = record {
       weighed = λ j h.
           let z = q j h in
           let all = window 0 s image i j in
@@ -124,8 +125,8 @@ module _ {s : Shape} {image : List ℕ} {i : ℕ} (ready : Ready longest_cycle s
           (λ e.
           let in-cycle : z < s.cycle = heard-tick s.cycle z (reading (i + k) (l + j)) e in
           let middle = centre-tick j h e in
-          let near : ranked s.cycle centres part j ≡ rank s.cycle (centre_at s image i j) z =
-          rw (y.holds j h, own-part j h, x.holds (l + j) (omega (arith, sizes.mask_columns_odd)))
+          let near : ranked s.cycle centres readings j ≡ rank s.cycle (centre_at s image i j) z =
+          rw (y j h, same j h, x.holds (l + j) (omega (arith, sizes.mask_columns_odd)))
           (rank_is s.cycle (centre_at s image i j) z middle in-cycle sizes.cycle_fits) in
           let sum : get_or sums j 0 ≡ shares s.cycle z all = omega (arith, is j h, mark-none z e) in
           rw (← (more_heard j h e)) (weigh_more (w.weighed j h) middle z in-cycle sum near (rw sum (shares-small ready (omega arith) i j hi h z in-cycle))))

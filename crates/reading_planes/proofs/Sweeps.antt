@@ -4,7 +4,7 @@ use Prim.Native.Nat.{ℕ, suc, ◌+◌, ◌-◌, ◌*◌, ◌%◌, ◌^◌, ◌�
 use mathlib.Core.Path.{◌≡◌, refl, ap, sym, ◌∙◌}
 use mathlib.Core.List.{List}
 use native.Mathlib.Omega.{arith}
-use native.Mathlib.Decide.{ℕ_discrete, dec_le}
+use native.Mathlib.Decide.{ℕ_discrete}
 use native.Mathlib.Nat.{mul-le-mul_right}
 use lib.ListN.{get_or}
 use Rattle.lists.specs.Total.{total_from}
@@ -115,35 +115,34 @@ module _ (s : Shape) (gain loss : Gain) where
         all (l + j) refl
 
     module _ (f : ℕ → ℕ → ℕ) where
-      -- on the way behind: planes up to l hold the sums f, the others still their front
-      pub record Swept (w : List ℕ) (l : ℕ) : Type 0 where
-        pub done : (m : ℕ) → m ≤ l → Plane s w m (f m)
-        pub left : Fronts s w start gain loss (l + 1)
+      -- on the way behind: the first n planes hold the sums f, the others still their front
+      pub record Swept (w : List ℕ) (n : ℕ) : Type 0 where
+        pub done : (m : ℕ) → m < n → Plane s w m (f m)
+        pub left : Fronts s w start gain loss n
 
       module _ (sums : (l j : ℕ) → l < s.mask_columns → j < s.columns → whole s start gain loss l j ≡ f l j) where
-        pub swept_first : {w : List ℕ} → 0 < s.mask_columns → Fronts s w start gain loss 0 → Swept w 0
+        pub swept_first : {w : List ℕ} → 0 < s.mask_columns → Fronts s w start gain loss 0 → Swept w 1
         swept_first {w} h r = record { done = λ m k. first m (omega arith); left = record { holds = λ m k g. r.holds m (omega arith) g } }
           where
             first : (m : ℕ) → m ≡ 0 → Plane s w m (f m)
             first m e = rw e (λ j g. r.holds 0 (omega arith) h j g ∙ front-first j ∙ sums 0 j h g)
 
-        pub swept_more : {w w' : List ℕ} (l : ℕ) → l + 1 < s.mask_columns → Swept w l
-            → Changed w w' ((l + 1) * s.columns) s.columns (λ j. (get_or w ((l + 1) * s.columns + j) 0 + net gain loss (l + 1 + j) j (l + 1)) % 2 ^ 32)
-            → Swept w' (l + 1)
-        swept_more {w} {w'} l h r c = record { done = λ m k. go m (dec_le m l) k; left = record { holds = rest } }
+        pub swept_more : {w w' : List ℕ} (l : ℕ) → l < s.mask_columns → Swept w l
+            → Changed w w' (l * s.columns) s.columns (λ j. (get_or w (l * s.columns + j) 0 + net gain loss (l + j) j l) % 2 ^ 32) → Swept w' (l + 1)
+        swept_more {w} {w'} l h r c = record { done = λ m k. go m (ℕ_discrete m l) k; left = record { holds = rest } }
           where
-            now : Plane s w' (l + 1) (f (l + 1))
+            now : Plane s w' l (f l)
             now j g =
-                c.holds j g ∙ ap (λ (x : ℕ). (x + net gain loss (l + 1 + j) j (l + 1)) % 2 ^ 32) (r.left.holds (l + 1) (omega arith) h j g)
-                ∙ front-whole (l + 1) j h ∙ sums (l + 1) j h g
+                c.holds j g ∙ ap (λ (x : ℕ). (x + net gain loss (l + j) j l) % 2 ^ 32) (r.left.holds l (omega arith) h j g)
+                ∙ front-whole l j h ∙ sums l j h g
 
-            go : (m : ℕ) → Dec (m ≤ l) → m ≤ l + 1 → Plane s w' m (f m)
-            go m (yes k) g =
-                let past : suc m ≤ l + 1 = omega arith in
-                holds-before c _ _ _ (omega (arith, mul-le-mul_right s.columns past)) (r.done m k)
-            go m (no k) g = let e : m ≡ l + 1 = omega arith in rw e now
+            go : (m : ℕ) → Dec (m ≡ l) → m < l + 1 → Plane s w' m (f m)
+            go m (yes e) g = rw e now
+            go m (no e) g =
+                let past : suc m ≤ l = omega arith in
+                holds-before c _ _ _ (omega (arith, mul-le-mul_right s.columns past)) (r.done m (omega arith))
 
-            rest : (m : ℕ) → l + 1 + 1 ≤ m → m < s.mask_columns → Plane s w' m (front s start gain loss m)
+            rest : (m : ℕ) → l + 1 ≤ m → m < s.mask_columns → Plane s w' m (front s start gain loss m)
             rest m k g =
-                let past : suc (l + 1) ≤ m = omega arith in
+                let past : suc l ≤ m = omega arith in
                 holds_after c _ _ _ (omega (arith, mul-le-mul_right s.columns past)) (r.left.holds m (omega arith) g)
