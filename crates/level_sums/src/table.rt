@@ -22,7 +22,9 @@ fn wrapped(cycle: usize, k: usize) -> usize
 
 // The distance of tick k modulo the cycle to tick 0.
 fn distance_at(list: &[u16], cycle: usize, k: usize) -> u32
-    requires { (cycle ≤ level_cycle) × (k < 2 * cycle) × ListFor cycle list.now }
+    requires limit { cycle ≤ level_cycle }
+    requires rounds { k < 2 * cycle }
+    requires list { ListFor cycle list.now }
     ensures { result ≡ distance cycle (k % cycle) 0 }
 {
     let tick = wrapped(cycle, k);
@@ -30,20 +32,21 @@ fn distance_at(list: &[u16], cycle: usize, k: usize) -> u32
 }
 
 // Fills two rounds of a table of zeros, with the list lent where it is used.
-fn distances_by(list: &[u16], cycle: usize, table: &mut [u32])
-    requires { (cycle ≤ level_cycle) × (table.old ≡ replicate table_length 0) × ListFor cycle list.now }
+fn distances_by(list: &[u16], cycle: usize, table: &mut [u32; TABLE])
+    requires limit { cycle ≤ level_cycle }
+    requires zeros { table.old ≡ replicate table_length 0 }
+    requires list { ListFor cycle list.now }
     ensures { Table cycle table.new }
 {
-    let mut k = 0;
-    while k < 2 * cycle {
+    for k in 0..2 * cycle {
         table[k] = distance_at(list, cycle, k);
-        k += 1;
     }
 }
 
 // The same; the list is made here, where it is used.
-pub fn distances(cycle: usize, table: &mut [u32])
-    requires { (cycle ≤ level_cycle) × (table.old ≡ replicate table_length 0) }
+pub fn distances(cycle: usize, table: &mut [u32; TABLE])
+    requires limit { cycle ≤ level_cycle }
+    requires zeros { table.old ≡ replicate table_length 0 }
     ensures { Table cycle table.new }
 {
     if is_listed(cycle as u16) {
