@@ -13,7 +13,7 @@ use refusal::limits::{LEVEL_CYCLE, MOST_BYTES};
 use refusal::{Refusal, refuse_if};
 use shape::Shape;
 pub use sheet_lines::MOST_TEXT;
-use sheet_lines::{put_lines, put_refusal};
+use sheet_lines::{write_lines, write_refusal};
 
 // The length is that of the whole text. Where it is above that of the text memory, the text was cut.
 #[derive(Clone, Copy, Debug, PartialEq, Eq)]
@@ -81,11 +81,11 @@ pub fn sheet(
 {
     match filter_record(bytes, readings, output, work) {
         Ok(shape) => SheetAnswer {
-            length: put_lines(text, shape, output),
+            length: write_lines(text, shape, output),
             result: Ok(()),
         },
         Err(refusal) => SheetAnswer {
-            length: put_refusal(text, refusal),
+            length: write_refusal(text, refusal),
             result: Err(refusal),
         },
     }

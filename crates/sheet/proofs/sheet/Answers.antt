@@ -10,10 +10,10 @@ passed : (c : In-Ok) → let a = c.args in
     SheetAccepted a.bytes.now (length a.readings.now) (length a.output.now) (length a.work.now) c.in-Ok.shape
 passed c = sheet_accepted c.in-Ok.ensures.answer
 
-pub put_lines-requires : goal.put_lines-requires
-put_lines-requires c =
+pub write_lines-requires : goal.write_lines-requires
+write_lines-requires c =
     let is = c.in-Ok.ensures.memory.output in
-    let tests = passed (goal.at.put_lines-requires c).In-Ok in
+    let tests = passed (goal.at.write_lines-requires c).In-Ok in
     let sizes = output_sizes c.args.output.now tests is in record {
       rows_fit = sizes.0;
       columns_fit = sizes.1;
@@ -25,10 +25,10 @@ pub returns-in-Ok : goal.returns-in-Ok
 returns-in-Ok c =
     let done = c.in-Ok.ensures in
     let lines = output-text c.args.output.now (passed (goal.at.returns-in-Ok c).In-Ok) done.memory.output in
-    let all = printed_sheet done.answer done.memory (rw lines at c.put_lines.ensures) in
+    let all = printed_sheet done.answer done.memory (rw lines at c.write_lines.ensures) in
     record { sheet_call = all; result_bound = told-fits all }
 
 pub returns-in-Err : goal.returns-in-Err
 returns-in-Err c =
-    let s = refused_sheet c.in-Err.ensures.answer c.in-Err.ensures.memory c.put_refusal.ensures in
+    let s = refused_sheet c.in-Err.ensures.answer c.in-Err.ensures.memory c.write_refusal.ensures in
     record { sheet_call = s; result_bound = told-fits s }
