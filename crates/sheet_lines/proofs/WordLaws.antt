@@ -4,8 +4,8 @@ use Rattle.std.specs.Prelude.{codes, decimal}
 use Rattle.cycle.specs.Silence.{silent}
 use Rattle.cycle.proofs.SilenceLaws.{unheard, not_silent}
 use Rattle.text.specs.declared.Text.{Text}
-use Rattle.text.specs.Text.{Put}
-use Rattle.text.proofs.TextLaws.{put_more}
+use Rattle.text.specs.Text.{Appended}
+use Rattle.text.proofs.TextLaws.{appended_more}
 use Rattle.sheet_lines.specs.Lines.{phase_word}
 
 -- a silent phase, and a heard one
@@ -18,5 +18,5 @@ unfolding phase_word
 word_heard p d = rw (not_silent p d)
 
 -- a word and a number more
-pub put_counted_more : {t t₁ t₂ : Text} {bytes : List ℕ} (word number : List ℕ) → Put t bytes t₁ → Put t₁ (word ++ number) t₂ → Put t (bytes ++ word ++ number) t₂
-put_counted_more word number p q = rw append_assoc (put_more p q)
+pub appended_counted : {t t₁ t₂ : Text} {bytes : List ℕ} (word number : List ℕ) → Appended t bytes t₁ → Appended t₁ (word ++ number) t₂ → Appended t (bytes ++ word ++ number) t₂
+appended_counted word number p q = rw append_assoc (appended_more p q)

@@ -9,7 +9,7 @@ ghost use Rattle.refusal.specs.Table.{number_of, place_of};
 ghost use Rattle.refusal.specs.Outcome.{Clear};
 ghost use Rattle.cycle.specs.Calls.{row_rules};
 ghost use Rattle.shape.specs.Rules.{area, row_of};
-ghost use Rattle.text.specs.Text.{Laid, Put};
+ghost use Rattle.text.specs.Text.{Laid, Appended};
 ghost use Rattle.sheet_lines.specs.Lines.{refusal_line, head_line, phase_word, phase_words, row_line, image_lines};
 
 use cycle::SILENT;
@@ -22,72 +22,72 @@ use text::Text;
 pub const MOST_TEXT: usize = 65536;
 
 // A word and a number after it.
-fn put_counted<I: Integer>(text: &mut Text, word: &[u8], n: I)
-    ensures { Put text.old (word.now ++ I.text n) text.new }
+fn append_counted<I: Integer>(text: &mut Text, word: &[u8], n: I)
+    ensures { Appended text.old (word.now ++ I.text n) text.new }
 {
-    text.put_bytes(word);
-    text.put_number(n);
+    text.append(word);
+    text.append_number(n);
 }
 
 // The line of a refusal.
-pub fn put_refusal(memory: &mut [u8], refusal: Refusal) -> usize
+pub fn write_refusal(memory: &mut [u8], refusal: Refusal) -> usize
     ensures { Laid memory.old 0 (refusal_line (number_of refusal) (place_of refusal)) result memory.new }
 {
     let mut text = Text::new(memory);
-    put_counted(&mut text, b"refused ", refusal.number());
-    put_counted(&mut text, b" at ", refusal.place());
-    text.put_bytes(b"\n");
+    append_counted(&mut text, b"refused ", refusal.number());
+    append_counted(&mut text, b" at ", refusal.place());
+    text.append(b"\n");
     text.length()
 }
 
 // The first line.
-fn put_head(text: &mut Text, shape: Shape)
-    ensures { Put text.old (head_line shape) text.new }
+fn append_head(text: &mut Text, shape: Shape)
+    ensures { Appended text.old (head_line shape) text.new }
 {
-    put_counted(text, b"cycle ", shape.cycle);
-    put_counted(text, b" rows ", shape.rows);
-    put_counted(text, b" columns ", shape.columns);
-    put_counted(text, b" mask ", shape.mask_rows);
-    put_counted(text, b" ", shape.mask_columns);
-    text.put_bytes(b"\n");
+    append_counted(text, b"cycle ", shape.cycle);
+    append_counted(text, b" rows ", shape.rows);
+    append_counted(text, b" columns ", shape.columns);
+    append_counted(text, b" mask ", shape.mask_rows);
+    append_counted(text, b" ", shape.mask_columns);
+    text.append(b"\n");
 }
 
 // A phase: its number, or `-` if it is silent.
-fn put_phase_word(text: &mut Text, phase: u16)
-    ensures { Put text.old (phase_word phase) text.new }
+fn append_phase_word(text: &mut Text, phase: u16)
+    ensures { Appended text.old (phase_word phase) text.new }
 {
     if phase == SILENT {
-        text.put_bytes(b"-");
+        text.append(b"-");
     } else {
-        text.put_number(phase);
+        text.append_number(phase);
     }
 }
 
 // Each phase after a space.
-fn put_phases(text: &mut Text, row: &[u16])
-    ensures { Put text.old (phase_words row.now) text.new }
+fn append_phases(text: &mut Text, row: &[u16])
+    ensures { Appended text.old (phase_words row.now) text.new }
 {
     for phase in row {
-        text.put_bytes(b" ");
-        put_phase_word(text, *phase);
+        text.append(b" ");
+        append_phase_word(text, *phase);
     }
 }
 
 // The line of a row, which has a drift.
-fn put_row(text: &mut Text, cycle: u32, i: usize, row: &[u16])
+fn append_row(text: &mut Text, cycle: u32, i: usize, row: &[u16])
     requires { Clear (row_rules cycle row.now) }
-    ensures { Put text.old (row_line cycle i row.now) text.new }
+    ensures { Appended text.old (row_line cycle i row.now) text.new }
 {
     let drift = cycle::drift(cycle, row).unwrap();
-    put_counted(text, b"row ", i);
-    text.put_bytes(b":");
-    put_phases(text, row);
-    put_counted(text, b" drift ", drift);
-    text.put_bytes(b"\n");
+    append_counted(text, b"row ", i);
+    text.append(b":");
+    append_phases(text, row);
+    append_counted(text, b" drift ", drift);
+    text.append(b"\n");
 }
 
 // All lines of a filtered image.
-pub fn put_lines(memory: &mut [u8], shape: Shape, phases: &[u16]) -> usize
+pub fn write_lines(memory: &mut [u8], shape: Shape, phases: &[u16]) -> usize
     requires rows_fit { shape.rows ≤ most_rows }
     requires columns_fit { shape.columns ≤ most_columns }
     requires phases_there { area shape ≤ length phases.now }
@@ -96,10 +96,10 @@ pub fn put_lines(memory: &mut [u8], shape: Shape, phases: &[u16]) -> usize
 {
     let mut text = Text::new(memory);
     let columns = shape.columns as usize;
-    put_head(&mut text, shape);
+    append_head(&mut text, shape);
     for i in 0..shape.rows as usize {
         let start = i * columns;
-        put_row(&mut text, shape.cycle, i, &phases[start..start + columns]);
+        append_row(&mut text, shape.cycle, i, &phases[start..start + columns]);
     }
     text.length()
 }

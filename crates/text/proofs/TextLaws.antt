@@ -5,7 +5,7 @@ use Rattle.std.proofs.Math.Seq.{take-append-add}
 use Rattle.std.proofs.lemmas.List.{length-append, length-take, length-drop, drop-drop, drop_all, take_min, take_all, take_at, drop_at, take-append-le, take-append-drop}
 use borrow.Rule.Slice.PartMut.{put_mid}
 use Rattle.text.specs.declared.Text.{Text}
-use Rattle.text.specs.Text.{laid, Laid, Put}
+use Rattle.text.specs.Text.{laid, Laid, Appended}
 
 -- memory after bytes for which there is room, and after bytes that reach its end
 laid-inside : (t : List ℕ) (at : ℕ) (bytes : List ℕ) → at + length bytes ≤ length t → laid t at bytes ≡ take at t ++ (bytes ++ drop (at + length bytes) t)
@@ -98,11 +98,11 @@ module _ {t : List ℕ} {at : ℕ} where
 
 module _ {t : Text} where
   -- nothing is put, and one piece more
-  pub put_none : Put t [] t
-  put_none = record { same_memory = refl; laid = λ fits. laid_none }
+  pub appended_none : Appended t [] t
+  appended_none = record { same_memory = refl; laid = λ fits. laid_none }
 
-  pub put_more : {bytes more : List ℕ} {t₁ t₂ : Text} → Put t bytes t₁ → Put t₁ more t₂ → Put t (bytes ++ more) t₂
-  put_more {bytes} {more} p q = record {
+  pub appended_more : {bytes more : List ℕ} {t₁ t₂ : Text} → Appended t bytes t₁ → Appended t₁ more t₂ → Appended t (bytes ++ more) t₂
+  appended_more {bytes} {more} p q = record {
     same_memory = q.same_memory ∙ p.same_memory;
     laid = λ fits.
         let both : length (bytes ++ more) ≡ length bytes + length more = length-append bytes more in
@@ -111,9 +111,9 @@ module _ {t : Text} where
   }
 
 -- a text that began in the memory m, at its end
-pub put_laid : {m bytes m₁ : List ℕ} {end : ℕ} {t t₁ : Text} → Put t bytes t₁ → t.memory.now ≡ m → t.length ≡ 0 → length bytes < 2 ^ 64
+pub appended_laid : {m bytes m₁ : List ℕ} {end : ℕ} {t t₁ : Text} → Appended t bytes t₁ → t.memory.now ≡ m → t.length ≡ 0 → length bytes < 2 ^ 64
     → end ≡ t₁.length → m₁ ≡ t₁.memory.now → Laid m 0 bytes end m₁
-put_laid {bytes} {t} p start at fits last end =
+appended_laid {bytes} {t} p start at fits last end =
     let l = p.laid (omega arith) in
     record { memory = end ∙ l.memory ∙ rw (start, at); after = omega (arith, l.after) }
 

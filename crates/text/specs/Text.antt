@@ -12,6 +12,6 @@ pub record Laid (t : List ℕ) (at : ℕ) (bytes : List ℕ) (next : ℕ) (t₁ 
   pub after : next ≡ at + length bytes
 
 -- bytes were put behind the text t, which left t₁ in the same memory: where the length of the whole fits 64 bits, they are laid behind what was there
-pub record Put (t : Text) (bytes : List ℕ) (t₁ : Text) : Type 0 where
+pub record Appended (t : Text) (bytes : List ℕ) (t₁ : Text) : Type 0 where
   pub same_memory : t₁.memory.ghost_name ≡ t.memory.ghost_name
   pub laid : t.length + length bytes < 2 ^ 64 → Laid t.memory.now t.length bytes t₁.length t₁.memory.now

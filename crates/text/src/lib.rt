@@ -4,18 +4,9 @@
 #![tactic(auto)]
 
 ghost use Rattle.std.specs.Prelude.{◌≡◌};
-ghost use Rattle.text.specs.Text.{laid, Put};
+ghost use Rattle.text.specs.Text.{Appended};
 
 use itoa::{Buffer, Integer};
-
-// Lays bytes into memory from a place on, as many as there is room for.
-fn lay(memory: &mut [u8], at: usize, bytes: &[u8])
-    ensures { memory.new ≡ laid memory.old at bytes.now }
-{
-    let start = at.min(memory.len());
-    let fitting = bytes.len().min(memory.len() - start);
-    memory[start..start + fitting].copy_from_slice(&bytes[..fitting]);
-}
 
 #[derive(Drop)]
 pub struct Text<'a> {
@@ -39,18 +30,20 @@ impl<'a> Text<'a> {
         self.length
     }
 
-    pub fn put_bytes(&mut self, bytes: &[u8])
-        ensures { Put self.old bytes.now self.new }
+    pub fn append(&mut self, bytes: &[u8])
+        ensures { Appended self.old bytes.now self.new }
     {
-        lay(self.memory, self.length, bytes);
+        let start = self.length.min(self.memory.len());
+        let fitting = bytes.len().min(self.memory.len() - start);
+        self.memory[start..start + fitting].copy_from_slice(&bytes[..fitting]);
         self.length = self.length.saturating_add(bytes.len());
     }
 
     // A number in decimal, with a sign only below 0.
-    pub fn put_number<I: Integer>(&mut self, n: I)
-        ensures { Put self.old (I.text n) self.new }
+    pub fn append_number<I: Integer>(&mut self, n: I)
+        ensures { Appended self.old (I.text n) self.new }
     {
         let mut digits = Buffer::new();
-        self.put_bytes(digits.format(n).as_bytes());
+        self.append(digits.format(n).as_bytes());
     }
 }
