@@ -1,6 +1,6 @@
 -- Document 01, "The chosen phase": the least sum; among several the least distance to the centre reading; of two the one ahead.
 -- Nothing here goes by the signed step.
-use Rattle.std.specs.Prelude.{ℕ, ◌+◌, ◌*◌, ◌%◌, ◌≤◌, ◌≡◌, cond, List, eqb}
+use Rattle.std.specs.Prelude.{ℕ, ◌+◌, ◌*◌, ◌%◌, ◌≤◌, ◌≡◌, if◌then◌else◌, List, ◌==◌}
 use Rattle.lists.specs.Members.{In}
 use Rattle.lists.specs.Tabulate.{tabulate}
 use Rattle.lists.specs.Least.{least_of}
@@ -9,7 +9,7 @@ use Rattle.median.specs.Sum.{sum_at}
 
 -- the rank of tick q in the order from the centre a: the centre, one ahead, one behind, two ahead, two behind, ..
 unfoldable pub rank : ℕ → ℕ → ℕ → ℕ
-rank c a q = 2 * distance c a q + cond (eqb ((a + distance c a q) % c) q) 0 1
+rank c a q = 2 * distance c a q + (if (a + distance c a q) % c == q then 0 else 1)
 
 -- sums are compared first, and then ranks, which are below 2 c
 unfoldable pub key : ℕ → ℕ → (ℕ → ℕ) → ℕ → ℕ

@@ -1,5 +1,5 @@
 -- Laws of changed parts of memory: one store more, a part changed again, parts beside it. Assumes nothing.
-use Rattle.std.proofs.Common.{◌≡◌, ℕ, ◌+◌, ◌<◌, ◌≤◌, List, length, get_or, set, take, drop, replicate, rules, sym, refl, ap, ◌∙◌, zero-add, arith, length-set, get_or-set_other, get_or-set_same}
+use Rattle.std.proofs.Common.{◌≡◌, ℕ, ◌+◌, ◌<◌, ◌≤◌, List, ◌++◌, length, get_or, set, take, drop, replicate, rules, sym, refl, ap, ◌∙◌, zero-add, arith, length-set, get_or-set_other, get_or-set_same}
 use native.Mathlib.Decide.{ℕ_discrete}
 use borrow.Rule.Slice.PartMut.{put_mid}
 use Rattle.std.proofs.lemmas.List.{places}
@@ -129,3 +129,8 @@ part-reads w base k q h = search (rules, places)
 -- what std's `fill` leaves
 pub each_filled : {part : List ℕ} (n : ℕ) → part ≡ replicate n 0 → Each part zeros
 each_filled n e q h = search (rules, places)
+
+-- two parts at the front, one after the other, that have come back
+pub outside_two : {w back : List ℕ} {m n : ℕ} (a b : List ℕ) → back ≡ drop m w → length a ≡ m → length b ≡ n → m + n ≤ length w
+    → Outside w (a ++ (b ++ drop n back)) 0 (m + n)
+outside_two a b e p q room = rw e (record { len = search (rules, places); before = λ k h. absurd (omega arith); after = λ k h. search (rules, places) })

@@ -23,7 +23,7 @@ pub fn say_signed(n: i32) {
     if n < 0 {
         say(b"-");
     }
-    say_number(text::size(n) as u64);
+    say_number(n.unsigned_abs() as u64);
 }
 
 // A line of a name and a number.
