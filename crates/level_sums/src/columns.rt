@@ -142,11 +142,11 @@ impl<'a> Source<'a> {
     {
         let below = i + self.image.shape.mask_rows as usize;
         let ahead = j + self.image.shape.mask_columns as usize;
-        let in1 = self.part_at(below, ahead);
-        let in2 = self.part_at(i, j);
-        let out1 = self.part_at(below, j);
-        let out2 = self.part_at(i, ahead);
-        turn(sums, change, in1, in2, out1, out2)
+        let first_in = self.part_at(below, ahead);
+        let second_in = self.part_at(i, j);
+        let first_out = self.part_at(below, j);
+        let second_out = self.part_at(i, ahead);
+        turn(sums, change, first_in, second_in, first_out, second_out)
     }
 
     // The sums of column j of row i + 1, from those of row i. The lowest of them.
