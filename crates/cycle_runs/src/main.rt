@@ -49,6 +49,6 @@ fn run(rt: &(impl Input + Print + AllocGlobal)) -> io::Result<()> {
 }
 
 fn main(rt: HostRuntime) {
-    // Where no more can be printed the runs end, without a complaint.
+    // Where no more can be printed, or memory runs out, the runs end, with status 0.
     let _ = run(&rt);
 }

@@ -19,6 +19,6 @@ fn print_list(rt: &(impl Print + AllocGlobal)) -> io::Result<()> {
 }
 
 fn main(rt: HostRuntime) {
-    // Where no more can be printed the list ends, without a complaint.
+    // Where no more can be printed, or memory runs out, the list ends, with status 0.
     let _ = print_list(&rt);
 }

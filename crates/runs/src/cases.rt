@@ -1,9 +1,9 @@
-// The numbers of a case. Words that are no number say nothing, but for `of`: `3 of 8` is the number 8, three times.
+// The numbers of a case, among words that say nothing. In a list of readings `3 of 8` is 8, three times.
 use shape::Shape;
 use std::alloc::{AllocError, Global};
 use std::iter;
 
-// The numbers of a text, each of them once.
+// The numbers of a text, which may be large.
 pub fn sizes(alloc: Global, text: &str) -> Result<Vec<u32>, AllocError> {
     text.split_whitespace()
         .filter_map(|word| word.parse::<u32>().ok())
@@ -32,7 +32,7 @@ pub fn bytes(alloc: Global, text: &str) -> Result<Vec<u8>, AllocError> {
         .collect(alloc)
 }
 
-// The shape whose numbers a text begins with: cycle, rows, columns and the sides of the mask.
+// The shape of the first five numbers: cycle, rows, columns and the sides of the mask.
 pub fn shape(sizes: &[u32]) -> Option<Shape> {
     let [cycle, rows, columns, mask_rows, mask_columns, ..] = *sizes else {
         return None;

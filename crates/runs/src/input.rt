@@ -1,5 +1,4 @@
 // Standard input, read whole.
-use std::alloc::{AllocError, Global};
 use std::io::Read;
 
 // The bytes of standard input, as far as it can be read.
@@ -14,13 +13,4 @@ pub fn text(rt: &(impl Input + AllocGlobal)) -> String {
     let mut text = String::new(rt.alloc());
     let _ = rt.reader().read_to_string(&mut text);
     text
-}
-
-// Bytes as numbers of two bytes each, the high byte first.
-pub fn numbers(alloc: Global, bytes: &[u8]) -> Result<Vec<u16>, AllocError> {
-    let (pairs, _) = bytes.as_chunks::<2>();
-    pairs
-        .iter()
-        .map(|pair| u16::from_be_bytes(*pair))
-        .collect(alloc)
 }

@@ -9,13 +9,15 @@ pub struct Sizes(pub Shape);
 
 impl fmt::Display for Sizes {
     fn fmt<W: fmt::Write>(&self, f: &mut fmt::Formatter<W>) -> fmt::Result {
-        let shape = self.0;
-        write!(
-            f,
-            "cycle {} rows {} columns {} ",
-            shape.cycle, shape.rows, shape.columns
-        )?;
-        write!(f, "mask {} {}", shape.mask_rows, shape.mask_columns)
+        let Shape {
+            cycle,
+            rows,
+            columns,
+            mask_rows,
+            mask_columns,
+        } = self.0;
+        write!(f, "cycle {cycle} rows {rows} columns {columns} ")?;
+        write!(f, "mask {mask_rows} {mask_columns}")
     }
 }
 
@@ -40,23 +42,6 @@ impl<'a> fmt::Display for Bytes<'a> {
     fn fmt<W: fmt::Write>(&self, f: &mut fmt::Formatter<W>) -> fmt::Result {
         for byte in self.0 {
             write!(f, " {byte:02X}")?;
-        }
-        Ok(())
-    }
-}
-
-// Equal neighbours of a list in one, each after a space: `3 of 8` is 8, three times.
-#[derive(Clone, Copy, Debug)]
-pub struct Runs<'a, T>(pub &'a [T]);
-
-impl<'a, T: fmt::Display + PartialEq> fmt::Display for Runs<'a, T> {
-    fn fmt<W: fmt::Write>(&self, f: &mut fmt::Formatter<W>) -> fmt::Result {
-        for run in self.0.chunk_by(|a, b| a == b) {
-            match run {
-                [] => {}
-                [one] => write!(f, " {one}")?,
-                [first, ..] => write!(f, " {} of {first}", run.len())?,
-            }
         }
         Ok(())
     }
