@@ -1,4 +1,3 @@
-pub mod Values
 pub mod Told
 pub mod Numbers
 pub mod RoundTrip

@@ -19,13 +19,12 @@ use Rattle.cycle.proofs.Order.{pair_numbered, slot_numbered, row_numbered}
 use Rattle.shape.specs.declared.Shape.{Shape}
 use Rattle.filter.specs.declared.Engine.{Engine}
 use Rattle.filter.specs.declared.Engine.TheVariants.{Level, Reading}
-use Rattle.filter.specs.declared.FilterAnswer.TheVariants.{Filtered}
+use Rattle.std.proofs.Common.{Ok}
 use Rattle.filter.specs.Calls.{filter_rules, filter_due, FilterCall, SameRows}
 use Rattle.filter.proofs.Order.{filter_numbered}
 use Rattle.filter.proofs.Demand3.{same_rows}
 use Rattle.cycle.specs.Silence.{is_reading}
 use Rattle.live.specs.declared.LiveWindow.{LiveWindow}
-use Rattle.live.specs.declared.FreshAnswer.TheVariants.{Fresh}
 use Rattle.live.specs.Window.{LiveResult, result_after}
 use Rattle.live.specs.Calls.{window_rules, push_rules, fresh_due, live_told, whether_accepted, Live, FreshCall}
 use Rattle.live.proofs.Order.{window_numbered, push_numbered}
@@ -33,8 +32,6 @@ use Rattle.live.proofs.Pushes.{accepted-told, accepted_live, refused-told}
 use Rattle.record_format.specs.Record.{record_length, write_rules, write_due}
 use Rattle.record_format.specs.Reading.{shape_in, read_rules, read_due}
 use Rattle.record_format.proofs.Order.{write_numbered, read_numbered}
-use Rattle.record.specs.declared.ReadAnswer.TheVariants.{Read}
-use Rattle.record.specs.declared.WriteAnswer.TheVariants.{Written}
 use Rattle.record.specs.Calls.{ReadCall, WriteCall}
 use Rattle.circle_median.specs.declared.answers.Answer.{Answer}
 use Rattle.circle_median.specs.declared.answers.ValueAnswer.{ValueAnswer}
@@ -58,7 +55,7 @@ module _ {A B : Type 0} (tell : Outcome A → B) (number : B → ℕ) (tells : (
 module _ {e : Engine} {s : Shape} {first end : ℕ} {image output work output₁ work₁ : List ℕ} {r : Answer}
     (call : ExportedFilterCall e s first end image output work r output₁ work₁) where
   -- a filter that answers 0 is an accepted call
-  pub number_zero : r.number ≡ 0 → FilterCall e s first end image output work Filtered output₁ work₁
+  pub number_zero : r.number ≡ 0 → FilterCall e s first end image output work (Ok tt) output₁ work₁
   unfolding filter_due
   number_zero zero =
       let rs = filter_rules e s first end image (length output) (length work) in
@@ -100,7 +97,7 @@ module _ {r : ValueAnswer} (c : ℕ) where
 
 -- a writer that answers 0 has written the record, and its value is the record's length
 pub write_zero : {s : Shape} {readings bytes : List ℕ} {r : ValueAnswer} {bytes' : List ℕ} → ExportedWriteCall s readings bytes r bytes' → r.number ≡ 0
-    → WriteCall s readings bytes (Written (record_length s)) bytes' × (r.value ≡ pos (record_length s))
+    → WriteCall s readings bytes (Ok (record_length s)) bytes' × (r.value ≡ pos (record_length s))
 unfolding write_due
 write_zero {s} {readings} {bytes} call zero =
     let rs = write_rules s readings (length bytes) in
@@ -110,7 +107,7 @@ write_zero {s} {readings} {bytes} call zero =
 
 -- a reader that answers 0 has read the record, and its five numbers are the record's
 pub read_zero : {bytes buffer : List ℕ} {r : RecordAnswer} {buffer' : List ℕ} → ExportedReadCall bytes buffer r buffer' → r.number ≡ 0
-    → ReadCall bytes buffer (Read (shape_in bytes)) buffer' × (r ≡ record_of (accepted (shape_in bytes)))
+    → ReadCall bytes buffer (Ok (shape_in bytes)) buffer' × (r ≡ record_of (accepted (shape_in bytes)))
 unfolding read_due
 read_zero {bytes} {buffer} call zero =
     let rs = read_rules bytes (length buffer) in

@@ -13,7 +13,7 @@ use Rattle.shape.specs.Rules.{area}
 use Rattle.record_format.specs.Fields.{Bytes}
 use Rattle.record_format.specs.Record.{record_length}
 use Rattle.record_format.specs.Reading.{mask_said}
-use Rattle.record.specs.declared.WriteAnswer.TheVariants.{Written}
+use Rattle.std.proofs.Common.{Ok}
 use Rattle.record.specs.Calls.{WriteCall}
 use Rattle.record.proofs.RoundTrip.{call_reads_back, call_reads_back_short, call_writes_back}
 use Rattle.circle_median.specs.declared.answers.ValueAnswer.{ValueAnswer}
@@ -26,7 +26,7 @@ use Rattle.circle_median.proofs.Numbers.{write_zero, read_zero}
 module _ {s : Shape} {readings bytes : List ℕ} {w : ValueAnswer} {n : ℕ} {bytes' buffer : List ℕ} {r : RecordAnswer} {buffer' : List ℕ}
     (wrote : ExportedWriteCall s readings bytes w bytes') (zero : w.number ≡ 0) (value : w.value ≡ pos n)
     (read : ExportedReadCall (take n bytes') buffer r buffer') where
-  written : WriteCall s readings bytes (Written n) bytes'
+  written : WriteCall s readings bytes (Ok n) bytes'
   written =
       let done = write_zero wrote zero in
       let n-is : record_length s ≡ n = cc done.1 in

@@ -1,15 +1,12 @@
 -- How the exported functions tell an outcome in plain numbers: "number 0 means accepted"; a refusal gives its number and its place,
 -- and 0 for everything else but the count of a live window, which stays.
-use Rattle.std.specs.Prelude.{ℕ, ◌^◌, ◌<◌, Bool, cond, ℤ, pos, negsuc}
-use Rattle.std.specs.Int.Signed.{mag}
+use Rattle.std.specs.Prelude.{ℕ, Bool, if◌then◌else◌, ℤ, pos, negsuc}
 use Rattle.refusal.specs.Outcome.{Outcome}
 use Rattle.refusal.specs.Outcome.Outcome.{accepted, refused}
 use Rattle.cycle.specs.Silence.{silent}
-use Rattle.cycle.specs.declared.SignedAnswer.{SignedAnswer}
-use Rattle.cycle.specs.declared.SignedAnswer.TheVariants.{Signed, Refused}
 use Rattle.shape.specs.declared.Shape.{Shape}
-use Rattle.live.specs.Window.{LiveResult}
-use Rattle.live.specs.Window.LiveResult.{filling, phase-is, none-heard}
+use Rattle.live.specs.declared.Live.{Live}
+use Rattle.live.specs.declared.Live.TheVariants.{Filling, Phase, Silent}
 use Rattle.circle_median.specs.declared.answers.Answer.{Answer}
 use Rattle.circle_median.specs.declared.answers.ValueAnswer.{ValueAnswer}
 use Rattle.circle_median.specs.declared.answers.RecordAnswer.{RecordAnswer}
@@ -28,11 +25,6 @@ answer_of (refused n k) = record { number = n; place = k }
 abbrev pub value_of : Outcome ℤ → ValueAnswer
 value_of (accepted v) = record { number = 0; place = 0; value = v }
 value_of (refused n k) = record { number = n; place = k; value = pos 0 }
-
--- a value of 32 bits, as every step and every drift is; internal
-abbrev pub Narrow : SignedAnswer → Type 0
-Narrow (Signed v) = mag v < 2 ^ 31
-Narrow (Refused f) = Unit
 
 -- of the reader of records
 abbrev pub record_of : Outcome Shape → RecordAnswer
@@ -54,16 +46,16 @@ natural (refused n k) = refused n k
 
 -- a value that is yes or no: 1 or 0
 abbrev pub flag : Outcome Bool → Outcome ℤ
-flag (accepted b) = accepted (cond b (pos 1) (pos 0))
+flag (accepted b) = accepted (if b then pos 1 else pos 0)
 flag (refused n k) = refused n k
 
 -- what a live window answers, as a value: the phase, 65,535 if none is heard, -1 while it fills
-abbrev pub live_value : LiveResult → ℤ
-live_value filling = negsuc 0
-live_value (phase-is p) = pos p
-live_value none-heard = pos silent
+abbrev pub live_value : Live → ℤ
+live_value Filling = negsuc 0
+live_value (Phase p) = pos p
+live_value Silent = pos silent
 
-abbrev pub lived : Outcome LiveResult → Outcome ℤ
+abbrev pub lived : Outcome Live → Outcome ℤ
 lived (accepted v) = accepted (live_value v)
 lived (refused n k) = refused n k
 

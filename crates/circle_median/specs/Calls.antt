@@ -1,14 +1,15 @@
 -- What the exported filters, writer, reader and live window promise: the answer in numbers, and all of the lent memory at the end.
-use Rattle.std.specs.Prelude.{ℕ, ◌≡◌, List, [], length}
+use Rattle.std.specs.Prelude.{ℕ, ◌≡◌, List, [], length, Result}
 use Rattle.lists.specs.Front.{at_front}
-use Rattle.refusal.specs.Outcome.{after}
+use Rattle.refusal.specs.Outcome.{after, outcome}
+use Rattle.refusal.specs.declared.Refusal.{Refusal}
 use Rattle.shape.specs.declared.Shape.{Shape}
 use Rattle.filter.specs.declared.Engine.{Engine}
 use Rattle.filter.specs.Calls.{filter_due, filtered_rows, zeroed_work}
 use Rattle.live.specs.declared.LiveWindow.{LiveWindow}
-use Rattle.live.specs.declared.LiveAnswer.{LiveAnswer}
+use Rattle.live.specs.declared.Live.{Live}
 use Rattle.live.specs.Window.{live_after}
-use Rattle.live.specs.Calls.{fresh_due, live_told, PushCall}
+use Rattle.live.specs.Calls.{fresh_due, PushCall}
 use Rattle.record_format.specs.Record.{record_bytes, write_due}
 use Rattle.record_format.specs.Reading.{image_in, read_due}
 use Rattle.circle_median.specs.declared.answers.Answer.{Answer}
@@ -40,6 +41,6 @@ pub record ExportedFreshCall (c t : ℕ) (w : LiveWindow) (r : Answer) (w₁ : L
 
 -- a reading x pushed into window w, which w₁ comes of: a push, with its answer told in numbers
 pub record ExportedPushCall (w : LiveWindow) (x : ℕ) (r : WindowAnswer) (w₁ : LiveWindow) : Type 0 where
-  pub told : LiveAnswer
+  pub told : Result Live Refusal
   pub call : PushCall w x told w₁
-  pub answer : r ≡ window_answer_of (value_of (lived (live_told told))) w₁.filled
+  pub answer : r ≡ window_answer_of (value_of (lived (outcome told))) w₁.filled

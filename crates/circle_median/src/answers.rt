@@ -1,15 +1,10 @@
-// The structs that C sees, and what the calls take and answer turned into theirs.
+// The structs that C sees, and what the calls answer turned into them.
 ghost use Rattle.std.specs.Prelude.{◌≡◌};
-ghost use Rattle.refusal.specs.Outcome.{refusal};
-ghost use Rattle.refusal.specs.Outcome.Outcome.{accepted};
-ghost use Rattle.cycle.specs.Calls.{signed_outcome};
-ghost use Rattle.filter.specs.Calls.{filter_outcome};
-ghost use Rattle.live.specs.Calls.{fresh_outcome, live_told};
-ghost use Rattle.circle_median.specs.Answers.{shape_of, answer_of, value_of, Narrow, record_of, lived, window_answer_of};
+ghost use Rattle.refusal.specs.Outcome.{outcome};
+ghost use Rattle.circle_median.specs.Answers.{answer_of, value_of, record_of, live_value, lived, window_answer_of};
 
-use cycle::{SILENT, SignedAnswer};
-use filter::FilterAnswer;
-use live::{FreshAnswer, LiveAnswer};
+use cycle::SILENT;
+use live::Live;
 use refusal::Refusal;
 use shape::Shape;
 
@@ -54,129 +49,89 @@ pub struct WindowAnswer {
     pub filled: u32,
 }
 
-// The paper's C, M, N, R and T as a shape.
-pub fn shape_of(cycle: u32, rows: u32, columns: u32, mask_rows: u32, mask_columns: u32) -> Shape
-    ensures { result ≡ shape_of cycle rows columns mask_rows mask_columns }
-{
-    Shape {
-        cycle: cycle,
-        rows: rows,
-        columns: columns,
-        mask_rows: mask_rows,
-        mask_columns: mask_columns,
+impl From<Result<(), Refusal>> for Answer {
+    ghost from_gives = { λ answer told. told ≡ answer_of (outcome answer) };
+
+    fn from(answer: Result<(), Refusal>) -> Answer {
+        match answer {
+            Ok(()) => Answer {
+                number: 0,
+                place: 0,
+            },
+            Err(refusal) => Answer {
+                number: refusal.number(),
+                place: refusal.place() as u64,
+            },
+        }
     }
 }
 
-pub fn value_answer(v: i64) -> ValueAnswer
-    ensures { result ≡ value_of (accepted v) }
-{
-    ValueAnswer {
-        number: 0,
-        place: 0,
-        value: v,
+impl From<Result<i64, Refusal>> for ValueAnswer {
+    ghost from_gives = { λ answer told. told ≡ value_of (outcome answer) };
+
+    fn from(answer: Result<i64, Refusal>) -> ValueAnswer {
+        match answer {
+            Ok(value) => ValueAnswer {
+                number: 0,
+                place: 0,
+                value,
+            },
+            Err(refusal) => ValueAnswer {
+                number: refusal.number(),
+                place: refusal.place() as u64,
+                value: 0,
+            },
+        }
     }
 }
 
-pub fn refused_value(f: Refusal) -> ValueAnswer
-    ensures { result ≡ value_of (refusal f) }
-{
-    ValueAnswer {
-        number: refusal::number(f),
-        place: refusal::place(f) as u64,
-        value: 0,
+impl From<Result<Shape, Refusal>> for RecordAnswer {
+    ghost from_gives = { λ answer told. told ≡ record_of (outcome answer) };
+
+    fn from(answer: Result<Shape, Refusal>) -> RecordAnswer {
+        match answer {
+            Ok(shape) => RecordAnswer {
+                number: 0,
+                place: 0,
+                cycle: shape.cycle,
+                rows: shape.rows,
+                columns: shape.columns,
+                mask_rows: shape.mask_rows,
+                mask_columns: shape.mask_columns,
+            },
+            Err(refusal) => RecordAnswer {
+                number: refusal.number(),
+                place: refusal.place() as u64,
+                cycle: 0,
+                rows: 0,
+                columns: 0,
+                mask_rows: 0,
+                mask_columns: 0,
+            },
+        }
     }
 }
 
-// Of a step or a drift.
-pub fn signed_answer(answer: SignedAnswer) -> ValueAnswer
-    requires { Narrow answer }
-    ensures { result ≡ value_of (signed_outcome answer) }
+// What a live window answers as a value.
+fn live_value(live: Live) -> i64
+    ensures { result ≡ live_value live }
 {
-    match answer {
-        SignedAnswer::Refused(f) => refused_value(f),
-        SignedAnswer::Signed(v) => value_answer(v as i64),
+    match live {
+        Live::Filling => -1,
+        Live::Phase(phase) => i64::from(phase),
+        Live::Silent => i64::from(SILENT),
     }
 }
 
-pub fn filter_answer(answer: FilterAnswer) -> Answer
-    ensures { result ≡ answer_of (filter_outcome answer) }
+// Of a push into a live window, with the count of readings after it.
+pub fn window_answer(answer: Result<Live, Refusal>, filled: u32) -> WindowAnswer
+    ensures { result ≡ window_answer_of (value_of (lived (outcome answer))) filled }
 {
-    match answer {
-        FilterAnswer::Filtered => Answer {
-            number: 0,
-            place: 0,
-        },
-        FilterAnswer::Refused(f) => Answer {
-            number: refusal::number(f),
-            place: refusal::place(f) as u64,
-        },
-    }
-}
-
-pub fn fresh_answer(answer: FreshAnswer) -> Answer
-    ensures { result ≡ answer_of (fresh_outcome answer) }
-{
-    match answer {
-        FreshAnswer::Fresh => Answer {
-            number: 0,
-            place: 0,
-        },
-        FreshAnswer::Refused(f) => Answer {
-            number: refusal::number(f),
-            place: refusal::place(f) as u64,
-        },
-    }
-}
-
-// Of a push into a live window.
-pub fn live_answer(answer: LiveAnswer) -> ValueAnswer
-    ensures { result ≡ value_of (lived (live_told answer)) }
-{
-    match answer {
-        LiveAnswer::Filling => value_answer(-1),
-        LiveAnswer::Phase(p) => value_answer(p as i64),
-        LiveAnswer::Silent => value_answer(SILENT as i64),
-        LiveAnswer::Refused(f) => refused_value(f),
-    }
-}
-
-// The same, with the count of readings.
-pub fn window_answer(answer: LiveAnswer, filled: u32) -> WindowAnswer
-    ensures { result ≡ window_answer_of (value_of (lived (live_told answer))) filled }
-{
-    let told = live_answer(answer);
+    let told = ValueAnswer::from(answer.map(live_value));
     WindowAnswer {
         number: told.number,
         place: told.place,
         value: told.value,
-        filled: filled,
-    }
-}
-
-pub fn record_answer(shape: Shape) -> RecordAnswer
-    ensures { result ≡ record_of (accepted shape) }
-{
-    RecordAnswer {
-        number: 0,
-        place: 0,
-        cycle: shape.cycle,
-        rows: shape.rows,
-        columns: shape.columns,
-        mask_rows: shape.mask_rows,
-        mask_columns: shape.mask_columns,
-    }
-}
-
-pub fn refused_record(f: Refusal) -> RecordAnswer
-    ensures { result ≡ record_of (refusal f) }
-{
-    RecordAnswer {
-        number: refusal::number(f),
-        place: refusal::place(f) as u64,
-        cycle: 0,
-        rows: 0,
-        columns: 0,
-        mask_rows: 0,
-        mask_columns: 0,
+        filled,
     }
 }

@@ -11,13 +11,9 @@ ghost use Rattle.live.specs.Window.{window_of};
 ghost use Rattle.circle_median.specs.Answers.{shape_of, value_of, natural, flag};
 ghost use Rattle.circle_median.specs.Calls.{ExportedFilterCall, ExportedWriteCall, ExportedReadCall, ExportedFreshCall, ExportedPushCall};
 
-use answers::{
-    Answer, RecordAnswer, ValueAnswer, WindowAnswer, filter_answer, fresh_answer, record_answer,
-    refused_record, refused_value, shape_of, signed_answer, value_answer, window_answer,
-};
-use cycle::{DistanceAnswer, SlotAnswer};
+use answers::{Answer, RecordAnswer, ValueAnswer, WindowAnswer, window_answer};
 use live::PLACES;
-use record::{ReadAnswer, WriteAnswer};
+use shape::Shape;
 
 // The level engine: cycles up to 4,096, and C·(N + 1) numbers of work memory.
 #[unsafe(no_mangle)]
@@ -35,8 +31,14 @@ pub extern "C" fn circle_median_level(
 ) -> Answer
     ensures { ExportedFilterCall Level (shape_of cycle rows columns mask_rows mask_columns) first end input.now output.old work.old result output.new work.new }
 {
-    let shape = shape_of(cycle, rows, columns, mask_rows, mask_columns);
-    filter_answer(filter::level(shape, first, end, input, output, work))
+    let shape = Shape {
+        cycle,
+        rows,
+        columns,
+        mask_rows,
+        mask_columns,
+    };
+    filter::level(shape, first..end, input, output, work).into()
 }
 
 // The reading engine: every cycle, and R·T·(N + 1) numbers of work memory.
@@ -55,8 +57,14 @@ pub extern "C" fn circle_median_reading(
 ) -> Answer
     ensures { ExportedFilterCall Reading (shape_of cycle rows columns mask_rows mask_columns) first end input.now output.old work.old result output.new work.new }
 {
-    let shape = shape_of(cycle, rows, columns, mask_rows, mask_columns);
-    filter_answer(filter::reading(shape, first, end, input, output, work))
+    let shape = Shape {
+        cycle,
+        rows,
+        columns,
+        mask_rows,
+        mask_columns,
+    };
+    filter::reading(shape, first..end, input, output, work).into()
 }
 
 // The value is the distance of two ticks.
@@ -64,18 +72,15 @@ pub extern "C" fn circle_median_reading(
 pub extern "C" fn circle_median_distance(cycle: u32, a: u16, b: u16) -> ValueAnswer
     ensures { result ≡ value_of (natural (distance_due cycle a b)) }
 {
-    match cycle::distance(cycle, a, b) {
-        DistanceAnswer::Refused(f) => refused_value(f),
-        DistanceAnswer::Distance(d) => value_answer(d as i64),
-    }
+    cycle::distance(cycle, a, b).map(i64::from).into()
 }
 
-// The value is the signed step from a to b.
+// The value is the signed step from one tick to another.
 #[unsafe(no_mangle)]
-pub extern "C" fn circle_median_step(cycle: u32, a: u16, b: u16) -> ValueAnswer
-    ensures { result ≡ value_of (step_due cycle a b) }
+pub extern "C" fn circle_median_step(cycle: u32, from: u16, to: u16) -> ValueAnswer
+    ensures { result ≡ value_of (step_due cycle from to) }
 {
-    signed_answer(cycle::step(cycle, a, b))
+    cycle::step(cycle, from, to).map(i64::from).into()
 }
 
 // The value is 1 if tick p is in the slot that starts at s and is w wide, and else 0.
@@ -83,11 +88,7 @@ pub extern "C" fn circle_median_step(cycle: u32, a: u16, b: u16) -> ValueAnswer
 pub extern "C" fn circle_median_slot(cycle: u32, p: u16, s: u16, w: u16) -> ValueAnswer
     ensures { result ≡ value_of (flag (slot_due cycle p s w)) }
 {
-    match cycle::slot(cycle, p, s, w) {
-        SlotAnswer::Refused(f) => refused_value(f),
-        SlotAnswer::Inside => value_answer(1),
-        SlotAnswer::Outside => value_answer(0),
-    }
+    cycle::slot(cycle, p, s, w).map(i64::from).into()
 }
 
 // The value is the drift of a row.
@@ -95,7 +96,7 @@ pub extern "C" fn circle_median_slot(cycle: u32, p: u16, s: u16, w: u16) -> Valu
 pub extern "C" fn circle_median_drift(cycle: u32, row: &[u16]) -> ValueAnswer
     ensures { result ≡ value_of (drift_due cycle row.now) }
 {
-    signed_answer(cycle::drift(cycle, row))
+    cycle::drift(cycle, row).map(i64::from).into()
 }
 
 // Writes a record to the front of bytes; the value is its length.
@@ -111,11 +112,16 @@ pub extern "C" fn circle_median_write(
 ) -> ValueAnswer
     ensures { ExportedWriteCall (shape_of cycle rows columns mask_rows mask_columns) readings.now bytes.old result bytes.new }
 {
-    let shape = shape_of(cycle, rows, columns, mask_rows, mask_columns);
-    match record::write(shape, readings, bytes) {
-        WriteAnswer::Refused(f) => refused_value(f),
-        WriteAnswer::Written(n) => value_answer(n as i64),
-    }
+    let shape = Shape {
+        cycle,
+        rows,
+        columns,
+        mask_rows,
+        mask_columns,
+    };
+    record::write(shape, readings, bytes)
+        .map(|length| length as i64)
+        .into()
 }
 
 // Reads a record; its readings stand at the front of the buffer.
@@ -123,10 +129,7 @@ pub extern "C" fn circle_median_write(
 pub extern "C" fn circle_median_read(bytes: &[u8], readings: &mut [u16]) -> RecordAnswer
     ensures { ExportedReadCall bytes.now readings.old result readings.new }
 {
-    match record::read(bytes, readings) {
-        ReadAnswer::Refused(f) => refused_record(f),
-        ReadAnswer::Read(shape) => record_answer(shape),
-    }
+    record::read(bytes, readings).into()
 }
 
 // Makes the arrays of a live window fresh.
@@ -139,7 +142,7 @@ pub extern "C" fn circle_median_window_fresh(
 ) -> Answer
     ensures { ExportedFreshCall cycle length (window_of cycle length 0 readings.old sums.old) result (window_of cycle length 0 readings.new sums.new) }
 {
-    fresh_answer(live::fresh_in(cycle, length, readings, sums))
+    live::fresh_in(cycle, length, readings, sums).into()
 }
 
 // Pushes a reading into the arrays of a live window.
@@ -154,7 +157,7 @@ pub extern "C" fn circle_median_window_enter(
 ) -> WindowAnswer
     ensures { ExportedPushCall (window_of cycle length filled readings.old sums.old) reading result (window_of cycle length result.filled readings.new sums.new) }
 {
-    let entered = live::push_in(cycle, length, filled, reading, readings, sums);
-    let told = entered.told;
-    window_answer(told, entered.filled)
+    let mut count = filled;
+    let answer = live::push_in(cycle, length, &mut count, reading, readings, sums);
+    window_answer(answer, count)
 }

@@ -28,13 +28,13 @@ use Rattle.window.proofs.Once.{phase_once}
 use Rattle.window.proofs.Phase.{phase-at, phase_closest, phase_equal, phase-heard, phase-none, phase_all_heard}
 use Rattle.filter.specs.declared.Engine.{Engine}
 use Rattle.filter.specs.declared.Engine.TheVariants.{Level, Reading}
-use Rattle.filter.specs.declared.FilterAnswer.TheVariants.{Filtered}
+use Rattle.std.proofs.Common.{Ok}
 use Rattle.filter.specs.Calls.{limit, need, FilterCall, SameRows}
 use Rattle.filter.proofs.CallLaws.{Image, call-tested, call-ready, limit-fits}
 
 -- an accepted call of an engine, and a spot of its rows
 module _ {e : Engine} {s : Shape} {first end : ℕ} {image output work output₁ work₁ : List ℕ}
-    (call : FilterCall e s first end image output work Filtered output₁ work₁) (i j : ℕ) (from : first ≤ i) (upto : i < end) (column : j < s.columns) where
+    (call : FilterCall e s first end image output work (Ok tt) output₁ work₁) (i j : ℕ) (from : first ≤ i) (upto : i < end) (column : j < s.columns) where
   tested : Image s (need e s) first end image (length output) (length work)
   tested = call-tested e s first end image (length output) (length work) (sym call.answer)
 
@@ -99,7 +99,7 @@ module _ {e : Engine} {s : Shape} {first end : ℕ} {image output work output₁
 -- "for every cycle, image, mask and row range that both engines accept, whatever output and work memory held before, both write the
 -- same rows": the two calls may be lent memory of any contents and of any lengths, each its own
 pub same_rows : {s : Shape} {first end : ℕ} {image output work output₁ work₁ other room other₁ room₁ : List ℕ}
-    → FilterCall Level s first end image output work Filtered output₁ work₁
-    → FilterCall Reading s first end image other room Filtered other₁ room₁
+    → FilterCall Level s first end image output work (Ok tt) output₁ work₁
+    → FilterCall Reading s first end image other room (Ok tt) other₁ room₁
     → SameRows s first end output₁ other₁
 same_rows level reading i j from upto column = spot_filtered level i j from upto column ∙ sym (spot_filtered reading i j from upto column)

@@ -1,10 +1,10 @@
 -- What a filter call is answered and what it leaves in lent memory (document 01, "Two engines, lent memory" and "Refused calls").
 -- The two engines differ in the cycles that they take and in the work memory that they need, and in nothing else.
-use Rattle.std.specs.Prelude.{ℕ, ◌+◌, ◌*◌, ◌≤◌, ◌<◌, ◌≡◌, List, [], ◌∷◌, ◌++◌, length, get_or}
+use Rattle.std.specs.Prelude.{ℕ, ◌+◌, ◌*◌, ◌≤◌, ◌<◌, ◌≡◌, List, [], ◌∷◌, ◌++◌, length, slice_index, Result}
 use Rattle.lists.specs.Tabulate.{written}
 use Rattle.refusal.specs.Limits.{longest_cycle, level_cycle}
-use Rattle.refusal.specs.Outcome.{Outcome, Rule, first_due, refusal, after}
-use Rattle.refusal.specs.Outcome.Outcome.{accepted}
+use Rattle.refusal.specs.Outcome.{Outcome, Rule, first_due, outcome, after}
+use Rattle.refusal.specs.declared.Refusal.{Refusal}
 use Rattle.cycle.specs.Calls.{reading_rule}
 use Rattle.shape.specs.Need.{level_need, reading_need}
 use Rattle.shape.specs.Rules.{shape_rules, area, rows_rules, input_rule, buffer_rule, work_rule}
@@ -12,8 +12,6 @@ use Rattle.shape.specs.declared.Shape.{Shape}
 use Rattle.window.specs.Phase.{phase_at}
 use Rattle.filter.specs.declared.Engine.{Engine}
 use Rattle.filter.specs.declared.Engine.TheVariants.{Level, Reading}
-use Rattle.filter.specs.declared.FilterAnswer.{FilterAnswer}
-use Rattle.filter.specs.declared.FilterAnswer.TheVariants.{Filtered, Refused}
 
 -- the cycles that an engine takes: the level engine "takes C up to 4,096", the reading engine "takes every C"
 abbrev pub limit : Engine → ℕ
@@ -48,10 +46,6 @@ room_rules e s output work = shape_rules (limit e) s ++ memory_rules (area s) (n
 unfoldable pub room_due : Engine → Shape → ℕ → ℕ → Outcome Unit
 room_due e s output work = first_due (room_rules e s output work) tt
 
-abbrev pub filter_outcome : FilterAnswer → Outcome Unit
-filter_outcome Filtered = accepted tt
-filter_outcome (Refused r) = refusal r
-
 -- the output with rows first to end - 1 filtered, each chosen phase at its own spot i·N + j; nothing else in it changes
 abbrev pub filtered_rows : Shape → ℕ → ℕ → List ℕ → List ℕ → List ℕ
 filtered_rows s first end image output = written (phase_at s image) (first * s.columns) (end * s.columns) output
@@ -61,11 +55,11 @@ abbrev pub zeroed_work : Engine → Shape → List ℕ → List ℕ
 zeroed_work e s work = written (λ k. 0) 0 (need e s) work
 
 -- A call of an engine: the answer, and all of the output and of the work memory at its end; a refusal changes nothing.
-pub record FilterCall (e : Engine) (s : Shape) (first end : ℕ) (image output₀ work₀ : List ℕ) (r : FilterAnswer) (output₁ work₁ : List ℕ) : Type 0 where
-  pub answer : filter_outcome r ≡ filter_due e s first end image (length output₀) (length work₀)
-  pub output : output₁ ≡ after (filter_outcome r) (λ u. filtered_rows s first end image output₀) output₀
-  pub work : work₁ ≡ after (filter_outcome r) (λ u. zeroed_work e s work₀) work₀
+pub record FilterCall (e : Engine) (s : Shape) (first end : ℕ) (image output₀ work₀ : List ℕ) (r : Result Unit Refusal) (output₁ work₁ : List ℕ) : Type 0 where
+  pub answer : outcome r ≡ filter_due e s first end image (length output₀) (length work₀)
+  pub output : output₁ ≡ after (outcome r) (λ u. filtered_rows s first end image output₀) output₀
+  pub work : work₁ ≡ after (outcome r) (λ u. zeroed_work e s work₀) work₀
 
 -- "Two outputs have the same rows if their numbers at i·N + j are equal for each row i of the range and each column j."
 abbrev pub SameRows : Shape → ℕ → ℕ → List ℕ → List ℕ → Type 0
-SameRows s first end a b = (i j : ℕ) → first ≤ i → i < end → j < s.columns → get_or a (i * s.columns + j) 0 ≡ get_or b (i * s.columns + j) 0
+SameRows s first end a b = (i j : ℕ) → first ≤ i → i < end → j < s.columns → slice_index a (i * s.columns + j) ≡ slice_index b (i * s.columns + j)

@@ -3,85 +3,119 @@
 // in the work memory that they need and in speed; they write the same rows.
 #![tactic(auto)]
 
-mod engines;
-mod verdicts;
+mod checks;
 
+ghost use Rattle.std.specs.Prelude.{◌≡◌, length};
+ghost use Rattle.refusal.specs.Outcome.{first_due, outcome, Clear};
+ghost use Rattle.shape.specs.Rules.{shape_rules};
+ghost use Rattle.lines.specs.Rows.{Fillable, Filled};
 ghost use Rattle.filter.specs.declared.Engine.TheVariants.{Level, Reading};
-ghost use Rattle.filter.specs.Calls.{FilterCall};
+ghost use Rattle.filter.specs.Calls.{limit, need, FilterCall};
 
-use engines::{fill, need_of};
-use memory::clear;
-use refusal::{Refusal, Verdict};
+use checks::check_filter;
+pub use checks::check_room;
+use lines::Image;
+use refusal::Refusal;
+use refusal::limits::{LEVEL_CYCLE, LONGEST_CYCLE};
 use shape::Shape;
-use verdicts::filter_verdict;
-pub use verdicts::room_verdict;
+use std::ops::Range;
 
-#[derive(Clone, Copy)]
+#[derive(Clone, Copy, Debug, PartialEq, Eq)]
 pub enum Engine {
     Level,
     Reading,
 }
 
-#[derive(Clone, Copy)]
-pub enum FilterAnswer {
-    Filtered,
-    Refused(Refusal),
+impl Engine {
+    // The longest cycle that the engine takes.
+    pub fn limit(self) -> u32
+        ensures { result ≡ limit self }
+    {
+        match self {
+            Engine::Level => LEVEL_CYCLE,
+            Engine::Reading => LONGEST_CYCLE,
+        }
+    }
+
+    // Tests 1 to 3, for the cycles that the engine takes.
+    fn check(self, shape: Shape) -> Result<(), Refusal>
+        ensures { outcome result ≡ first_due (shape_rules (limit self) shape) tt }
+    {
+        shape.check(self.limit())
+    }
+
+    // The numbers of work memory that it needs, of a shape that has passed its tests.
+    fn need(self, shape: Shape) -> usize
+        requires { Clear (shape_rules (limit self) shape) }
+        ensures { result ≡ need self shape }
+    {
+        match self {
+            Engine::Level => shape.level_need(),
+            Engine::Reading => shape.reading_need(),
+        }
+    }
+
+    // The rows of a range, each at its own spot of the output.
+    fn fill(self, image: &Image, rows: Range<usize>, output: &mut [u16], work: &mut [u32])
+        requires { Fillable (limit self) (need self) image.now.shape image.now.readings.now rows.start rows.end (length output.old) (length work.old) }
+        ensures { Filled (need self) image.now.shape image.now.readings.now rows.start rows.end output.old output.new work.old work.new }
+    {
+        match self {
+            Engine::Level => level::rows::fill(image, rows, output, work),
+            Engine::Reading => reading::rows::fill(image, rows, output, work),
+        }
+    }
 }
 
-// Rows from first up to end are written by an engine, each at its own spot of the whole image.
+// The rows of a range are written by an engine, each at its own spot of the whole image.
 pub fn run(
     engine: Engine,
     shape: Shape,
-    first: u32,
-    end: u32,
+    rows: Range<u32>,
     input: &[u16],
     output: &mut [u16],
     work: &mut [u32],
-) -> FilterAnswer
-    ensures { FilterCall engine shape first end input.now output.old work.old result output.new work.new }
+) -> Result<(), Refusal>
+    ensures { FilterCall engine shape rows.start rows.end input.now output.old work.old result output.new work.new }
 {
-    match filter_verdict(engine, shape, first, end, input, output.len(), work.len()) {
-        Verdict::Refused(f) => FilterAnswer::Refused(f),
-        Verdict::Passed => {
-            fill(
-                engine,
-                shape,
-                first as usize,
-                end as usize,
-                input,
-                output,
-                work,
-            );
-            clear(work, 0, need_of(engine, shape));
-            FilterAnswer::Filtered
-        }
-    }
+    check_filter(engine, shape, &rows, input, output.len(), work.len())?;
+    let image = Image {
+        shape,
+        readings: input,
+    };
+    engine.fill(
+        &image,
+        rows.start as usize..rows.end as usize,
+        output,
+        work,
+    );
+    let need = engine.need(shape);
+    work[..need].fill(0);
+    Ok(())
 }
 
 // The level engine: cycles up to 4,096, and C·(N + 1) numbers of work memory.
 pub fn level(
     shape: Shape,
-    first: u32,
-    end: u32,
+    rows: Range<u32>,
     input: &[u16],
     output: &mut [u16],
     work: &mut [u32],
-) -> FilterAnswer
-    ensures { FilterCall Level shape first end input.now output.old work.old result output.new work.new }
+) -> Result<(), Refusal>
+    ensures { FilterCall Level shape rows.start rows.end input.now output.old work.old result output.new work.new }
 {
-    run(Engine::Level, shape, first, end, input, output, work)
+    run(Engine::Level, shape, rows, input, output, work)
 }
 
 // The reading engine: every cycle, and R·T·(N + 1) numbers of work memory.
 pub fn reading(
     shape: Shape,
-    first: u32,
-    end: u32,
+    rows: Range<u32>,
     input: &[u16],
     output: &mut [u16],
     work: &mut [u32],
-) -> FilterAnswer
-    ensures { FilterCall Reading shape first end input.now output.old work.old result output.new work.new }
+) -> Result<(), Refusal>
+    ensures { FilterCall Reading shape rows.start rows.end input.now output.old work.old result output.new work.new }
 {
-    run(Engine::Reading, shape, first, end, input, output, work)
+    run(Engine::Reading, shape, rows, input, output, work)
 }

@@ -1,203 +1,147 @@
-// A row of the output: the first of a range, and each later one from the row before it.
-ghost use Rattle.std.specs.Prelude.{◌≡◌, ◌+◌, ◌<◌, length};
+// The rows of the output: the first of a range, and each later one from the row above it.
+ghost use Rattle.std.specs.Prelude.{◌≡◌, ◌+◌, ◌*◌, ◌≤◌, ◌<◌, length};
+ghost use Rattle.lists.specs.Tabulate.{tabulate, written};
 ghost use Rattle.refusal.specs.Limits.{level_cycle};
 ghost use Rattle.shape.specs.Need.{level_need};
+ghost use Rattle.shape.specs.Rules.{area};
 ghost use Rattle.memory.specs.Memory.{lowest};
-ghost use Rattle.memory.specs.Parts.{copied};
-ghost use Rattle.lines.specs.Lines.{IsLine};
-ghost use Rattle.lines.specs.Rows.{Given, Fillable, Filled};
-ghost use Rattle.level_sums.specs.Table.{Table};
+ghost use Rattle.memory.specs.Parts.{held};
+ghost use Rattle.window.specs.Phase.{phase_at};
+ghost use Rattle.lines.specs.Rows.{Fillable, Filled};
 ghost use Rattle.level_sums.specs.Sums.{RowSums};
-ghost use Rattle.level.specs.Rows.{Choosable, ChosenBy, RowDone};
+ghost use Rattle.level.specs.Rows.{Choosable, ChosenBy, PhasesOf};
 
 use cycle::SILENT;
 use level_choice::choose;
-use level_sums::columns::{advance, first_column, next_column, start_row, wide};
+use level_sums::columns::Source;
 use level_sums::table::{TABLE, distances};
-use lines::LINE;
+use lines::{Image, LINE, Line};
 use memory::lowest_of;
-use shape::Shape;
+use std::ops::Range;
 
-// The phase of column j of a row, from its centre and its sums, of which least is the lowest. The line of
-// centres has a silent one only where none of the window was heard.
-fn phase_of(cycle: usize, centres: &[u16], work: &[u32], j: usize, base: usize, least: u32) -> u16
-    requires { Choosable cycle centres.now work.now j base × (least ≡ lowest (copied work.now base) cycle) }
-    ensures { ChosenBy cycle centres.now work.now j base result }
+// Memory for two lines: the centres of a row's windows, and a row.
+#[derive(Drop)]
+struct Lines {
+    centres: Line,
+    row: Line,
+}
+
+// The phase of a column, from its centre and its sums, of which least is the lowest. The centre is silent
+// only where none of the window was heard.
+fn phase_of(centre: u16, sums: &[u32], least: u32) -> u16
+    requires choosable { Choosable centre sums.now }
+    requires lowest { least ≡ lowest (held sums.now) (length sums.now) }
+    ensures { ChosenBy centre sums.now result }
 {
-    let centre = centres[j];
     if centre == SILENT {
         SILENT
     } else {
-        choose(work, base, cycle, wide(centre), least) as u16
+        choose(sums, usize::from(centre), least) as u16
     }
 }
 
 // The same, where the lowest sum is not known yet.
-fn settled(cycle: usize, centres: &[u16], work: &[u32], j: usize, base: usize) -> u16
-    requires { Choosable cycle centres.now work.now j base }
-    ensures { ChosenBy cycle centres.now work.now j base result }
+fn settled(centre: u16, sums: &[u32]) -> u16
+    requires { Choosable centre sums.now }
+    ensures { ChosenBy centre sums.now result }
 {
-    let least = lowest_of(work, base, cycle);
-    phase_of(cycle, centres, work, j, base, least)
+    phase_of(centre, sums, lowest_of(sums))
 }
 
-// Row i, set up afresh; its centres go into a line of their own, and `row` is memory for a line.
-fn first_row(
-    shape: Shape,
-    image: &[u16],
-    work: &mut [u32],
-    table: &[u32],
-    centres: &mut [u16],
-    row: &mut [u16],
-    i: usize,
-    out: &mut [u16],
-)
-    requires given { Given level_cycle level_need shape image.now (length work.old) × Table shape.cycle table.now × IsLine centres.old × IsLine row.old }
-    requires i_lt_rows { (i < shape.rows) × (length out.old ≡ shape.columns) }
-    ensures { RowDone shape image.now i out.new work.old work.new }
+// Row i, set up afresh.
+fn first_row(source: &Source, i: usize, sums: &mut [u32], lines: &mut Lines, out: &mut [u16])
+    requires image_row { i < source.now.image.shape.rows }
+    requires room { length sums.old ≡ source.now.image.shape.columns * source.now.image.shape.cycle }
+    requires width { length out.old ≡ source.now.image.shape.columns }
+    ensures phases { PhasesOf source.now.image i out.new }
+    ensures sums { RowSums source.now.image i sums.new 0 source.now.image.shape.columns }
 {
-    let cycle = shape.cycle as usize;
-    let columns = shape.columns as usize;
-    lines::centres(shape, image, i, centres, row);
-    first_column(shape, image, work, table, i);
-    out[0] = settled(cycle, centres, work, 0, 0);
-    let mut j = 0;
-    let mut base = 0;
-    while j + 1 < columns {
-        next_column(shape, image, work, table, i, j, base);
-        j += 1;
-        base += cycle;
-        out[j] = settled(cycle, centres, work, j, base);
+    let cycle = source.image.shape.cycle as usize;
+    source.image.centres(i, &mut lines.centres, &mut lines.row);
+    for (j, phase) in out.iter_mut().enumerate() {
+        source.set_up(i, j, sums);
+        *phase = settled(lines.centres[j], &sums[j * cycle..(j + 1) * cycle]);
     }
 }
 
 // Row i + 1, from the sums of row i.
 fn next_row(
-    shape: Shape,
-    image: &[u16],
-    work: &mut [u32],
-    table: &[u32],
-    centres: &mut [u16],
-    row: &mut [u16],
+    source: &Source,
     i: usize,
+    sums: &mut [u32],
+    change: &mut [u32],
+    lines: &mut Lines,
     out: &mut [u16],
 )
-    requires given { Given level_cycle level_need shape image.now (length work.old) × Table shape.cycle table.now × IsLine centres.old × IsLine row.old }
-    requires i_bound { (i + 1 < shape.rows) × (length out.old ≡ shape.columns) × RowSums shape image.now i work.old 0 shape.columns }
-    ensures { RowDone shape image.now (i + 1) out.new work.old work.new }
+    requires next { i + 1 < source.now.image.shape.rows }
+    requires room { length sums.old ≡ source.now.image.shape.columns * source.now.image.shape.cycle }
+    requires ticks { length change.old ≡ source.now.image.shape.cycle }
+    requires width { length out.old ≡ source.now.image.shape.columns }
+    requires sums { RowSums source.now.image i sums.old 0 source.now.image.shape.columns }
+    ensures phases { PhasesOf source.now.image (i + 1) out.new }
+    ensures sums { RowSums source.now.image (i + 1) sums.new 0 source.now.image.shape.columns }
 {
-    let cycle = shape.cycle as usize;
-    let columns = shape.columns as usize;
-    let change = columns * cycle;
-    lines::centres(shape, image, i + 1, centres, row);
-    let least = start_row(shape, image, work, table, i, change);
-    out[0] = phase_of(cycle, centres, work, 0, 0, least);
-    let mut j = 0;
-    let mut base = 0;
-    while j + 1 < columns {
-        base += cycle;
-        let lower = advance(shape, image, work, table, i, j, base, change);
-        j += 1;
-        out[j] = phase_of(cycle, centres, work, j, base, lower);
+    let cycle = source.image.shape.cycle as usize;
+    source
+        .image
+        .centres(i + 1, &mut lines.centres, &mut lines.row);
+    for (j, phase) in out.iter_mut().enumerate() {
+        let least = source.move_down(i, j, sums, change);
+        *phase = phase_of(lines.centres[j], &sums[j * cycle..(j + 1) * cycle], least);
     }
 }
 
-// The rows from first up to end of the output, each lent in its turn, by a table of distances and with memory
-// for two lines, of centres and of a row.
+// The rows of a range of the output, each lent in its turn.
 fn each_row(
-    shape: Shape,
-    first: usize,
-    end: usize,
-    image: &[u16],
+    source: &Source,
+    rows: Range<usize>,
     output: &mut [u16],
-    work: &mut [u32],
-    table: &[u32],
-    centres: &mut [u16],
-    row: &mut [u16],
+    sums: &mut [u32],
+    change: &mut [u32],
+    lines: &mut Lines,
 )
-    requires fillable { Fillable level_cycle level_need shape image.now first end (length output.old) (length work.old) × (first < end) }
-    requires table { Table shape.cycle table.now × IsLine centres.old × IsLine row.old }
-    ensures { Filled level_need shape image.now first end output.old output.new work.old work.new }
+    requires order { rows.start ≤ rows.end }
+    requires image_rows { rows.end ≤ source.now.image.shape.rows }
+    requires output_room { area source.now.image.shape ≤ length output.old }
+    requires room { length sums.old ≡ source.now.image.shape.columns * source.now.image.shape.cycle }
+    requires ticks { length change.old ≡ source.now.image.shape.cycle }
+    ensures { output.new ≡ written (phase_at source.now.image.shape source.now.image.readings.now) (rows.start * source.now.image.shape.columns) (rows.end * source.now.image.shape.columns) output.old }
 {
-    let columns = shape.columns as usize;
-    let start = first * columns;
-    let stop = start + columns;
-    first_row(
-        shape,
-        image,
-        work,
-        table,
-        centres,
-        row,
-        first,
-        &mut output[start..stop],
-    );
-    let mut i = first;
-    while i + 1 < end {
-        let a = (i + 1) * columns;
-        let b = a + columns;
-        next_row(
-            shape,
-            image,
-            work,
-            table,
-            centres,
-            row,
-            i,
-            &mut output[a..b],
-        );
-        i += 1;
+    let columns = source.image.shape.columns as usize;
+    let first = rows.start;
+    for i in first..rows.end {
+        let start = i * columns;
+        let out = &mut output[start..start + columns];
+        if i == first {
+            first_row(source, i, sums, lines, out);
+        } else {
+            next_row(source, i - 1, sums, change, lines, out);
+        }
     }
 }
 
-// The rows from first up to end of the output; the work memory past the need stays.
-fn with_table(
-    shape: Shape,
-    first: usize,
-    end: usize,
-    image: &[u16],
-    output: &mut [u16],
-    work: &mut [u32],
-)
-    requires { Fillable level_cycle level_need shape image.now first end (length output.old) (length work.old) }
-    ensures { Filled level_need shape image.now first end output.old output.new work.old work.new }
+// The rows of a range of the output; the work memory past the need stays. Not inlined, so that the table and
+// the lines stay out of its callers' frames, where a call that is refused would pay for them.
+#[inline(never)]
+pub fn fill(image: &Image, rows: Range<usize>, output: &mut [u16], work: &mut [u32])
+    requires { Fillable level_cycle level_need image.now.shape image.now.readings.now rows.start rows.end (length output.old) (length work.old) }
+    ensures { Filled level_need image.now.shape image.now.readings.now rows.start rows.end output.old output.new work.old work.new }
 {
-    if first == end {
+    if rows.is_empty() {
         return;
     }
-    let mut table = [0u32; TABLE];
-    let mut centres = [0u16; LINE];
-    let mut row = [0u16; LINE];
-    distances(shape.cycle as usize, &mut table);
-    each_row(
-        shape,
-        first,
-        end,
-        image,
-        output,
-        work,
-        &table,
-        &mut centres,
-        &mut row,
-    );
-}
-
-// The same. A function that calls itself is not inlined, so that the table and the lines stay out of its
-// callers' frames, where a call that is refused would pay for them. The call is never made: first is at most
-// end.
-pub fn fill(
-    shape: Shape,
-    first: usize,
-    end: usize,
-    image: &[u16],
-    output: &mut [u16],
-    work: &mut [u32],
-)
-    requires { Fillable level_cycle level_need shape image.now first end (length output.old) (length work.old) }
-    ensures { Filled level_need shape image.now first end output.old output.new work.old work.new }
-{
-    with_table(shape, first, end, image, output, work);
-    if end < first {
-        fill(shape, first, end, image, output, work);
-    }
+    let cycle = image.shape.cycle as usize;
+    let columns = image.shape.columns as usize;
+    let mut table = [0; TABLE];
+    let mut lines = Lines {
+        centres: [0; LINE],
+        row: [0; LINE],
+    };
+    distances(cycle, &mut table);
+    let source = Source {
+        image: *image,
+        table: &table,
+    };
+    let (sums, rest) = work.split_at_mut(columns * cycle);
+    each_row(&source, rows, output, sums, &mut rest[..cycle], &mut lines);
 }

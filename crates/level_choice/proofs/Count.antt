@@ -70,3 +70,23 @@ module _ (f : ℕ → ℕ) (v : ℕ) where
   -- so where the count is 1 the sum of the places is the place
   pub only_place : (n p : ℕ) → count_of f v n ≡ 1 → p < n → f p ≡ v → places_of f v n ≡ p
   only_place n p one h e = single (λ q. q) n p one h e
+
+-- a pass over n places has counted them and added them up
+pub record Tallied (f : ℕ → ℕ) (v n count places : ℕ) : Type 0 where
+  pub counted : count ≡ count_of f v n
+  pub added : places ≡ places_of f v n
+
+module _ {f : ℕ → ℕ} {v : ℕ} where
+  pub tallied_none : Tallied f v 0 0 0
+  tallied_none = record { counted = sym (sum-none f v _); added = sym (sum-none f v _) }
+
+  module _ {n count places : ℕ} (t : Tallied f v n count places) where
+    pub tallied_more : {one place : ℕ} → one ≡ if_equal (f n) v 1 → place ≡ if_equal (f n) v n → Tallied f v (n + 1) (count + one) (places + place)
+    tallied_more e d = record { counted = sum_turn f v (λ q. 1) n t.counted refl e; added = sum_turn f v (λ q. q) n t.added refl d }
+
+    -- both stay small
+    pub count_small : {one : ℕ} → one ≡ if_equal (f n) v 1 → count + one ≤ (n + 1) * 1
+    count_small e = omega (arith, sum_turn f v (λ q. 1) n t.counted refl e, sum_most f v (λ q. 1) 1 (n + 1) (λ q h. omega arith))
+
+    pub places_small : {place : ℕ} (m : ℕ) → n ≤ m → place ≡ if_equal (f n) v n → places + place ≤ (n + 1) * m
+    places_small m within d = omega (arith, sum_turn f v (λ q. q) n t.added refl d, sum_most f v (λ q. q) m (n + 1) (λ q h. omega arith))

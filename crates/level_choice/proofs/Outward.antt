@@ -12,6 +12,7 @@ use Rattle.cycle.proofs.Ways.{Way, way_mod, mod_way, way_back, distance_way}
 use Rattle.median.specs.Choice.{candidates, Chosen}
 use Rattle.median.proofs.Rank.{reached}
 use Rattle.median.proofs.Choice.{candidate, candidate_below}
+use Rattle.std.specs.Prelude.{Option, Some, None, IsSome}
 use Rattle.memory.specs.Memory.{Signed, lowest}
 use Rattle.memory.proofs.Lowest.{lowest-least, lowest-found}
 use Rattle.level_choice.specs.Walk.{Passed, Walked}
@@ -64,9 +65,9 @@ module _ (c a : ℕ) (ha : a < c) where
         at : distance c a p ≡ e
         at = omega (arith, far p hp is)
 
-    found_rear : (e : ℕ) → e ≤ c → Passed c a sum least e → (sum (front c a e) ≡ least → ⊥) → sum (rear c a e) ≡ least
+    pub walked_rear : (e : ℕ) → e ≤ c → Passed c a sum least e → (sum (front c a e) ≡ least → ⊥) → sum (rear c a e) ≡ least
         → Chosen c a sum (candidates c) (rear c a e)
-    found_rear e h passed no_front is = found e (rear c a e) (tick (c - e)) passed (rear_near e h) is third
+    walked_rear e h passed no_front is = found e (rear c a e) (tick (c - e)) passed (rear_near e h) is third
       where
         third : (q : ℕ) → q < c → sum q ≡ least → distance c a q ≡ e → (q ≡ rear c a e → ⊥) → rear c a e ≡ front c a e
         third q g s d ne = ⊎_elim
@@ -74,20 +75,9 @@ module _ (c a : ℕ) (ha : a < c) where
             (λ (r : q ≡ rear c a (distance c a q)). absurd (ne (r ∙ ap (rear c a) d)))
             (two q g)
 
-    -- what a walk up to step n answers, at step e and at its end
-    walked_tick : (n p : ℕ) → p < c → Chosen c a sum (candidates c) p → Walked c a sum least n p
-    walked_tick n p h x = record { found = λ l. x; passed = λ l. absurd (omega arith) }
-
-    pub walked_front : (n e : ℕ) → e ≤ c → Passed c a sum least e → sum (front c a e) ≡ least → Walked c a sum least n (front c a e)
-    walked_front n e h passed is =
-        walked_tick n (front c a e) (tick e) (found e (front c a e) (tick e) passed (front_near e h) is (λ q g s d ne. refl))
-
-    pub walked_rear : (n e : ℕ) → e ≤ c → Passed c a sum least e → (sum (front c a e) ≡ least → ⊥) → sum (rear c a e) ≡ least
-        → Walked c a sum least n (rear c a e)
-    walked_rear n e h passed no_front is = walked_tick n (rear c a e) (tick (c - e)) (found_rear e h passed no_front is)
-
-    pub walked_none : (n : ℕ) → Passed c a sum least n → Walked c a sum least n c
-    walked_none n passed = record { found = λ l. absurd (omega arith); passed = λ l. passed }
+    -- the tick ahead or the one behind at step e, where no step before it met one
+    pub walked_front : (e : ℕ) → e ≤ c → Passed c a sum least e → sum (front c a e) ≡ least → Chosen c a sum (candidates c) (front c a e)
+    walked_front e h passed is = found e (front c a e) (tick e) passed (front_near e h) is (λ q g s d ne. refl)
 
     pub passed_more : (e : ℕ) → Passed c a sum least e → (sum (front c a e) ≡ least → ⊥) → (sum (rear c a e) ≡ least → ⊥) → Passed c a sum least (e + 1)
     passed_more e passed f r q h l s = go (dec_lt (distance c a q) e)
@@ -107,12 +97,9 @@ module _ (c a : ℕ) (ha : a < c) where
       some = let x = lowest-found sum c (omega arith) signed in (x.0, x.1, x.2 ∙ sym is-lowest)
 
       -- so a walk over all steps meets one
-      pub walked_all : (r : ℕ) → Walked c a sum least c r → Chosen c a sum (candidates c) r
-      walked_all r x = go (dec_lt r c)
-        where
-          go : Dec (r < c) → Chosen c a sum (candidates c) r
-          go (yes l) = x.found l
-          go (no l) = absurd (x.passed (omega arith) some.0 some.1 (omega (arith, distance_half c a some.0 ha some.1)) some.2)
+      pub walked_all : (r : Option ℕ) → Walked c a sum least c r → IsSome r
+      walked_all (Some p) x = refl
+      walked_all None x = absurd (x some.0 some.1 (omega (arith, distance_half c a some.0 ha some.1)) some.2)
 
       -- and p is chosen if no other tick has it
       pub found_only : (p : ℕ) → ((q : ℕ) → q < c → sum q ≡ least → q ≡ p) → Chosen c a sum (candidates c) p

@@ -1,9 +1,9 @@
 -- Sums over the places at which numbers f 0, f 1, .. have a value v. Internal to the engine.
-use Rattle.std.specs.Prelude.{ℕ, zero, suc, ◌+◌, cond, eqb}
+use Rattle.std.specs.Prelude.{ℕ, zero, suc, ◌+◌, ◌==◌, if◌then◌else◌}
 
 -- x if a number y is v, else 0
 abbrev pub if_equal : ℕ → ℕ → ℕ → ℕ
-if_equal y v x = cond (eqb y v) x 0
+if_equal y v x = (if y == v then x else 0)
 
 -- the sum of w q over the places q below n at which f is v
 unfoldable pub sum_where : (ℕ → ℕ) → ℕ → (ℕ → ℕ) → ℕ → ℕ

@@ -1,5 +1,5 @@
 -- The walk outward from the centre a: what it knows of the ticks that it passed, and what it answers. Internal to the engine.
-use Rattle.std.specs.Prelude.{ℕ, ◌≤◌, ◌<◌, ◌≡◌}
+use Rattle.std.specs.Prelude.{ℕ, ◌<◌, ◌≡◌, Option, Some, None}
 use Rattle.cycle.specs.Distance.{distance}
 use Rattle.median.specs.Choice.{candidates, Chosen}
 
@@ -7,7 +7,7 @@ use Rattle.median.specs.Choice.{candidates, Chosen}
 abbrev pub Passed : ℕ → ℕ → (ℕ → ℕ) → ℕ → ℕ → Type 0
 Passed c a sum least e = (q : ℕ) → q < c → distance c a q < e → sum q ≡ least → ⊥
 
--- the answer r of a walk up to step e: a tick, which is the chosen one, or no tick, and then none nearer than e has the least sum
-pub record Walked (c a : ℕ) (sum : ℕ → ℕ) (least e r : ℕ) : Type 0 where
-  pub found : r < c → Chosen c a sum (candidates c) r
-  pub passed : c ≤ r → Passed c a sum least e
+-- the answer of a walk up to step e: the chosen tick, or none, and then no tick nearer than e has the least sum
+abbrev pub Walked : ℕ → ℕ → (ℕ → ℕ) → ℕ → ℕ → Option ℕ → Type 0
+Walked c a sum least e (Some tick) = Chosen c a sum (candidates c) tick
+Walked c a sum least e None = Passed c a sum least e

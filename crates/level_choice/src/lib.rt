@@ -9,7 +9,7 @@ ghost use Rattle.std.specs.Prelude.{◌≡◌, ◌+◌, ◌%◌, ◌≤◌, ◌<
 ghost use Rattle.refusal.specs.Limits.{longest_cycle};
 ghost use Rattle.median.specs.Choice.{candidates, Chosen};
 ghost use Rattle.memory.specs.Memory.{Signed, lowest};
-ghost use Rattle.memory.specs.Parts.{copied};
+ghost use Rattle.memory.specs.Parts.{held};
 ghost use Rattle.level_choice.specs.Walk.{Passed, Walked};
 ghost use Rattle.level_choice.specs.Count.{if_equal, count_of, places_of};
 
@@ -22,40 +22,37 @@ struct Tally {
 
 // The tick that lies e ahead of a.
 fn ahead_by(cycle: usize, a: usize, e: usize) -> usize
-    requires { (a < cycle) × (e ≤ cycle) × (cycle ≤ longest_cycle) }
+    requires tick { a < cycle }
+    requires step { e ≤ cycle }
+    requires limit { cycle ≤ longest_cycle }
     ensures { result ≡ (a + e) % cycle }
 {
     if a + e < cycle { a + e } else { a + e - cycle }
 }
 
 // Walks the steps from start up to end, where those before start met no tick with the least sum: the
-// first such tick, or the cycle if they meet none.
-fn walk(
-    work: &[u32],
-    base: usize,
-    cycle: usize,
-    centre: usize,
-    least: u32,
-    start: usize,
-    end: usize,
-) -> usize
-    requires cycle_in_bounds { (base + cycle ≤ length work.now) × (centre < cycle) × (cycle ≤ longest_cycle) × (least ≡ lowest (copied work.now base) cycle) }
-    requires start_le_end { (start ≤ end) × (end ≤ cycle) × Passed cycle centre (copied work.now base) least start }
-    ensures { Walked cycle centre (copied work.now base) least end result }
+// first such tick, if they meet one.
+fn walk(sums: &[u32], centre: usize, least: u32, start: usize, end: usize) -> Option<usize>
+    requires tick { centre < length sums.now }
+    requires limit { length sums.now ≤ longest_cycle }
+    requires least { least ≡ lowest (held sums.now) (length sums.now) }
+    requires order { start ≤ end }
+    requires within { end ≤ length sums.now }
+    requires passed { Passed (length sums.now) centre (held sums.now) least start }
+    ensures { Walked (length sums.now) centre (held sums.now) least end result }
 {
-    let mut e = start;
-    while e < end {
+    let cycle = sums.len();
+    for e in start..end {
         let front = ahead_by(cycle, centre, e);
-        if work[base + front] == least {
-            return front;
+        if sums[front] == least {
+            return Some(front);
         }
         let rear = ahead_by(cycle, centre, cycle - e);
-        if work[base + rear] == least {
-            return rear;
+        if sums[rear] == least {
+            return Some(rear);
         }
-        e += 1;
     }
-    cycle
+    None
 }
 
 // The number x if a sum is the least one, else 0.
@@ -66,40 +63,36 @@ fn if_equal(sum: u32, least: u32, x: u32) -> u32
 }
 
 // Tallies the ticks with the least sum: one loop without a branch, for packed instructions.
-fn tally_of(work: &[u32], base: usize, cycle: usize, least: u32) -> Tally
-    requires { (base + cycle ≤ length work.now) × (cycle ≤ longest_cycle) }
-    ensures { (result.count ≡ count_of (copied work.now base) least cycle) × (result.places ≡ places_of (copied work.now base) least cycle) }
+fn tally_of(sums: &[u32], least: u32) -> Tally
+    requires { length sums.now ≤ longest_cycle }
+    ensures count { result.count ≡ count_of (held sums.now) least (length sums.now) }
+    ensures places { result.places ≡ places_of (held sums.now) least (length sums.now) }
 {
-    let mut count: u32 = 0;
-    let mut places: u32 = 0;
-    let mut q = 0;
-    while q < cycle {
-        let sum = work[base + q];
-        count += if_equal(sum, least, 1);
-        places += if_equal(sum, least, q as u32);
-        q += 1;
+    let mut count = 0;
+    let mut places = 0;
+    for (q, sum) in sums.iter().enumerate() {
+        count += if_equal(*sum, least, 1);
+        places += if_equal(*sum, least, q as u32);
     }
-    Tally {
-        count: count,
-        places: places,
-    }
+    Tally { count, places }
 }
 
-// The tick that the paper chooses by the sums at base, of which least is the lowest. A tally costs as
+// The tick that the paper chooses by the sums of a column, of which least is the lowest. A tally costs as
 // much as many steps, so a few come first, one for each 64 ticks.
-pub fn choose(work: &[u32], base: usize, cycle: usize, centre: usize, least: u32) -> usize
-    requires cycle_in_bounds { (base + cycle ≤ length work.now) × (centre < cycle) × (cycle ≤ longest_cycle) × (least ≡ lowest (copied work.now base) cycle) }
-    requires signed { Signed (copied work.now base) cycle }
-    ensures { Chosen cycle centre (copied work.now base) (candidates cycle) result }
+pub fn choose(sums: &[u32], centre: usize, least: u32) -> usize
+    requires tick { centre < length sums.now }
+    requires limit { length sums.now ≤ longest_cycle }
+    requires signed { Signed (held sums.now) (length sums.now) }
+    requires least { least ≡ lowest (held sums.now) (length sums.now) }
+    ensures { Chosen (length sums.now) centre (held sums.now) (candidates (length sums.now)) result }
 {
-    let near = cycle / 64 + 1;
-    let met = walk(work, base, cycle, centre, least, 0, near);
-    if met < cycle {
-        return met;
+    let near = sums.len() / 64 + 1;
+    if let Some(tick) = walk(sums, centre, least, 0, near) {
+        return tick;
     }
-    let tally = tally_of(work, base, cycle, least);
+    let tally = tally_of(sums, least);
     if tally.count == 1 {
         return tally.places as usize;
     }
-    walk(work, base, cycle, centre, least, near, cycle)
+    walk(sums, centre, least, near, sums.len()).unwrap()
 }

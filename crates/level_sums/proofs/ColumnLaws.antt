@@ -12,14 +12,13 @@ use Rattle.lists.specs.Difference.{difference, adjusted}
 use Rattle.lists.proofs.Difference.{difference-is}
 use Rattle.lists.proofs.Total.{total_more}
 use Rattle.refusal.specs.Limits.{level_cycle}
-use Rattle.shape.specs.Need.{level_need}
 use Rattle.shape.specs.declared.Shape.{Shape}
 use Rattle.median.specs.Sum.{share, shares}
 use Rattle.memory.specs.Memory.{Signed}
 use Rattle.window.specs.Window.{padded, block, window}
 use Rattle.window.proofs.Sums.{total_block_more, block_across, change, sum_down, change_across}
 use Rattle.window.proofs.Window.{shares-small}
-use Rattle.lines.specs.Rows.{Given}
+use Rattle.window.specs.Ready.{Ready}
 use Rattle.level_sums.specs.Sums.{window_sum, block_sum, row_change}
 
 module _ (s : Shape) (image : List ℕ) where
@@ -83,10 +82,10 @@ module _ (s : Shape) (image : List ℕ) where
   unfolding change
   change_next i j q = change_across y s.mask_columns (share s.cycle q) i j s.mask_rows
 
-  module _ {room : ℕ} (given : Given level_cycle level_need s image room) where
+  module _ (ready : Ready level_cycle s image) where
     -- the sums of a window are signed numbers
     pub window-signed : (i j : ℕ) → i < s.rows → j < s.columns → Signed (window_sum s image i j) s.cycle
-    window-signed i j hi hj q hq = omega (arith, shares-small given.ready (omega arith) i j hi hj q hq)
+    window-signed i j hi hj q hq = omega (arith, shares-small ready (omega arith) i j hi hj q hq)
 
     small : (i j q : ℕ) → i < s.rows → j < s.columns → q < s.cycle → window_sum s image i j q < 2 ^ 32
     small i j q hi hj hq = omega (arith, window-signed i j hi hj q hq)

@@ -2,3 +2,5 @@ pub mod TableLaws
 pub mod Room
 pub mod Running
 pub mod ColumnLaws
+pub mod Down
+pub mod RowSums

@@ -1,186 +1,168 @@
-// The sums of a column, set up afresh, moved on by a column, and moved down by a row.
-ghost use Rattle.std.specs.Prelude.{◌≡◌, true, ◌+◌, ◌*◌, ◌≤◌, ◌<◌, length};
+// The sums of a row's columns, set up afresh or moved down by a row, and what they are made from.
+ghost use Rattle.std.specs.Prelude.{◌≡◌, ◌+◌, ◌*◌, ◌≤◌, ◌<◌, IsTrue, length};
 ghost use Rattle.refusal.specs.Limits.{level_cycle};
 ghost use Rattle.cycle.specs.Silence.{is_reading};
-ghost use Rattle.shape.specs.Need.{level_need};
-ghost use Rattle.memory.specs.Memory.{Holds, Changed, ChangedBoth, lowest};
 ghost use Rattle.window.specs.Ready.{Ready};
-ghost use Rattle.lines.specs.Rows.{Given};
-ghost use Rattle.level_sums.specs.Table.{Table, PartOf, PartAt};
-ghost use Rattle.level_sums.specs.Sums.{window_sum, block_sum, row_change};
+ghost use Rattle.level_sums.specs.Table.{Table, PartOf};
+ghost use Rattle.level_sums.specs.Sums.{SharesAt, BlockSums, ColumnSums, RowChange, RowSums, Descent, lowest_sum};
 
+use crate::table::TABLE;
 use cycle::SILENT;
-use memory::{add, clear, copy, swap, turn};
-use shape::Shape;
-use window::mirrored;
+use lines::Image;
+use memory::{add, lowest_of, swap, turn};
 
-pub fn wide(x: u16) -> usize
-    ensures { result ≡ x }
-{
-    x as usize
+// What the sums are made from: an image, and the table of distances of its cycle.
+#[derive(Clone, Copy)]
+pub struct Source<'a> {
+    pub image: Image<'a>,
+    pub table: &'a [u32; TABLE],
+    pub ghost ready: { Ready level_cycle image.shape image.readings.now },
+    pub ghost filled: { Table image.shape.cycle table.now },
 }
 
 // Where the table's part starts for a reading.
-fn part_of(cycle: usize, y: u16) -> usize
-    requires { (cycle ≤ level_cycle) × (is_reading cycle y ≡ true) }
-    ensures { PartOf cycle y result }
+fn part_of(cycle: usize, reading: u16) -> usize
+    requires limit { cycle ≤ level_cycle }
+    requires reading { IsTrue (is_reading cycle reading) }
+    ensures { PartOf cycle reading result }
 {
-    if y == SILENT {
+    if reading == SILENT {
         2 * cycle
     } else {
-        cycle - wide(y)
+        cycle - usize::from(reading)
     }
 }
 
-// Where the table's part starts for the reading at a row's and a column's position of the padded image.
-fn part_at(shape: Shape, image: &[u16], row_position: usize, column_position: usize) -> usize
-    requires { Ready level_cycle shape image.now }
-    ensures { PartAt shape image.now row_position column_position result }
-{
-    let row = mirrored(
-        shape.rows as usize,
-        (shape.mask_rows / 2) as usize,
-        row_position,
-    );
-    let column = mirrored(
-        shape.columns as usize,
-        (shape.mask_columns / 2) as usize,
-        column_position,
-    );
-    let place = row * (shape.columns as usize) + column;
-    part_of(shape.cycle as usize, image[place])
-}
-
-// Adds mask row k of the window of row i and column 0.
-fn add_mask_row(shape: Shape, image: &[u16], work: &mut [u32], table: &[u32], i: usize, k: usize)
-    requires given { Given level_cycle level_need shape image.now (length work.old) × Table shape.cycle table.now }
-    requires i_lt_rows { (i < shape.rows) × (k < shape.mask_rows) }
-    requires holds { Holds work.old 0 shape.cycle (block_sum shape image.now i k) }
-    ensures { Changed work.old work.new 0 shape.cycle (block_sum shape image.now i (k + 1)) }
-{
-    let cycle = shape.cycle as usize;
-    let columns = shape.mask_columns as usize;
-    let mut l = 0;
-    while l < columns {
-        let entering = part_at(shape, image, i + k, l);
-        add(work, 0, table, entering, cycle);
-        l += 1;
+impl<'a> Source<'a> {
+    // What the reading at a row's and a column's position of the padded image adds to the sums.
+    fn part_at(&self, row_position: usize, column_position: usize) -> &'a [u32]
+        ensures { SharesAt self.now.image row_position column_position result.now }
+    {
+        let cycle = self.image.shape.cycle as usize;
+        let start = part_of(cycle, self.image.at(row_position, column_position));
+        let table = self.table;
+        &table[start..start + cycle]
     }
-}
 
-// The sums of the window of row i and column 0.
-pub fn first_column(shape: Shape, image: &[u16], work: &mut [u32], table: &[u32], i: usize)
-    requires given { Given level_cycle level_need shape image.now (length work.old) × Table shape.cycle table.now }
-    requires i_lt_rows { i < shape.rows }
-    ensures { Changed work.old work.new 0 shape.cycle (window_sum shape image.now i 0) }
-{
-    let rows = shape.mask_rows as usize;
-    clear(work, 0, shape.cycle as usize);
-    let mut k = 0;
-    while k < rows {
-        add_mask_row(shape, image, work, table, i, k);
-        k += 1;
+    // Adds mask row k of the window of row i and column 0.
+    fn add_mask_row(&self, i: usize, k: usize, sums: &mut [u32])
+        requires image_row { i < self.now.image.shape.rows }
+        requires mask_row { k < self.now.image.shape.mask_rows }
+        requires rows { BlockSums self.now.image i k sums.old }
+        ensures { BlockSums self.now.image i (k + 1) sums.new }
+    {
+        for l in 0..self.image.shape.mask_columns as usize {
+            add(sums, self.part_at(i + k, l));
+        }
     }
-}
 
-// The sums of the next column, from those of column j.
-pub fn next_column(
-    shape: Shape,
-    image: &[u16],
-    work: &mut [u32],
-    table: &[u32],
-    i: usize,
-    j: usize,
-    base: usize,
-)
-    requires given { Given level_cycle level_need shape image.now (length work.old) × Table shape.cycle table.now }
-    requires i_lt_rows { (i < shape.rows) × (j + 1 < shape.columns) × (base ≡ j * shape.cycle) }
-    requires holds { Holds work.old base shape.cycle (window_sum shape image.now i j) }
-    ensures { Changed work.old work.new (base + shape.cycle) shape.cycle (window_sum shape image.now i (j + 1)) }
-{
-    let cycle = shape.cycle as usize;
-    let rows = shape.mask_rows as usize;
-    let ahead = j + (shape.mask_columns as usize);
-    let next = base + cycle;
-    copy(work, next, base, cycle);
-    let mut k = 0;
-    while k < rows {
-        let entering = part_at(shape, image, i + k, ahead);
-        let leaving = part_at(shape, image, i + k, j);
-        swap(work, next, table, entering, leaving, cycle);
-        k += 1;
+    // The sums of the window of row i and column 0.
+    fn first_column(&self, i: usize, sums: &mut [u32])
+        requires image_row { i < self.now.image.shape.rows }
+        requires ticks { length sums.old ≡ self.now.image.shape.cycle }
+        ensures { ColumnSums self.now.image i 0 sums.new }
+    {
+        sums.fill(0);
+        for k in 0..self.image.shape.mask_rows as usize {
+            self.add_mask_row(i, k, sums);
+        }
     }
-}
 
-// The differences between row i + 1 and row i, at column 0.
-fn first_change(
-    shape: Shape,
-    image: &[u16],
-    work: &mut [u32],
-    table: &[u32],
-    i: usize,
-    change: usize,
-)
-    requires given { Given level_cycle level_need shape image.now (length work.old) × Table shape.cycle table.now }
-    requires i_bound { (i + 1 < shape.rows) × (change ≡ shape.columns * shape.cycle) }
-    ensures { Changed work.old work.new change shape.cycle (row_change shape image.now i 0) }
-{
-    let cycle = shape.cycle as usize;
-    let columns = shape.mask_columns as usize;
-    let below = i + (shape.mask_rows as usize);
-    clear(work, change, cycle);
-    let mut l = 0;
-    while l < columns {
-        let entering = part_at(shape, image, below, l);
-        let leaving = part_at(shape, image, i, l);
-        swap(work, change, table, entering, leaving, cycle);
-        l += 1;
+    // The sums of column j + 1, from those of column j.
+    fn next_column(&self, i: usize, j: usize, sums: &mut [u32])
+        requires image_row { i < self.now.image.shape.rows }
+        requires next { j + 1 < self.now.image.shape.columns }
+        requires column { ColumnSums self.now.image i j sums.old }
+        ensures { ColumnSums self.now.image i (j + 1) sums.new }
+    {
+        let ahead = j + self.image.shape.mask_columns as usize;
+        for k in 0..self.image.shape.mask_rows as usize {
+            let entering = self.part_at(i + k, ahead);
+            let leaving = self.part_at(i + k, j);
+            swap(sums, entering, leaving);
+        }
     }
-}
 
-// Column 0 of row i + 1, from that column of row i. The lowest sum.
-pub fn start_row(
-    shape: Shape,
-    image: &[u16],
-    work: &mut [u32],
-    table: &[u32],
-    i: usize,
-    change: usize,
-) -> u32
-    requires given { Given level_cycle level_need shape image.now (length work.old) × Table shape.cycle table.now }
-    requires i_bound { (i + 1 < shape.rows) × (change ≡ shape.columns * shape.cycle) }
-    requires holds { Holds work.old 0 shape.cycle (window_sum shape image.now i 0) }
-    ensures { (ChangedBoth work.old work.new 0 change shape.cycle (window_sum shape image.now (i + 1) 0) (row_change shape image.now i 0))
-        × (result ≡ lowest (window_sum shape image.now (i + 1) 0) shape.cycle) }
-{
-    first_change(shape, image, work, table, i, change);
-    turn(work, 0, change, table, 0, 0, 0, 0, shape.cycle as usize)
-}
+    // The sums of column j of row i, set up afresh after those of the columns before it.
+    pub fn set_up(&self, i: usize, j: usize, sums: &mut [u32])
+        requires image_row { i < self.now.image.shape.rows }
+        requires image_column { j < self.now.image.shape.columns }
+        requires room { length sums.old ≡ self.now.image.shape.columns * self.now.image.shape.cycle }
+        requires before { RowSums self.now.image i sums.old 0 j }
+        ensures { RowSums self.now.image i sums.new 0 (j + 1) }
+    {
+        let cycle = self.image.shape.cycle as usize;
+        if j == 0 {
+            return self.first_column(i, &mut sums[..cycle]);
+        }
+        let (before, rest) = sums.split_at_mut(j * cycle);
+        let column = &mut rest[..cycle];
+        column.copy_from_slice(&before[(j - 1) * cycle..]);
+        self.next_column(i, j - 1, column);
+    }
 
-// Column j + 1 of row i + 1, from that column of row i and the differences at column j. The lowest sum.
-pub fn advance(
-    shape: Shape,
-    image: &[u16],
-    work: &mut [u32],
-    table: &[u32],
-    i: usize,
-    j: usize,
-    base: usize,
-    change: usize,
-) -> u32
-    requires given { Given level_cycle level_need shape image.now (length work.old) × Table shape.cycle table.now }
-    requires i_bound { (i + 1 < shape.rows) × (j + 1 < shape.columns) × (base ≡ (j + 1) * shape.cycle) × (change ≡ shape.columns * shape.cycle) }
-    requires holds { Holds work.old base shape.cycle (window_sum shape image.now i (j + 1)) }
-    requires holds_2 { Holds work.old change shape.cycle (row_change shape image.now i j) }
-    ensures { (ChangedBoth work.old work.new base change shape.cycle (window_sum shape image.now (i + 1) (j + 1)) (row_change shape image.now i (j + 1)))
-        × (result ≡ lowest (window_sum shape image.now (i + 1) (j + 1)) shape.cycle) }
-{
-    let cycle = shape.cycle as usize;
-    let below = i + (shape.mask_rows as usize);
-    let ahead = j + (shape.mask_columns as usize);
-    let in1 = part_at(shape, image, below, ahead);
-    let in2 = part_at(shape, image, i, j);
-    let out1 = part_at(shape, image, below, j);
-    let out2 = part_at(shape, image, i, ahead);
-    turn(work, base, change, table, in1, in2, out1, out2, cycle)
+    // The differences between row i + 1 and row i, at column 0.
+    fn first_change(&self, i: usize, change: &mut [u32])
+        requires next { i + 1 < self.now.image.shape.rows }
+        requires ticks { length change.old ≡ self.now.image.shape.cycle }
+        ensures { RowChange self.now.image i 0 change.new }
+    {
+        let below = i + self.image.shape.mask_rows as usize;
+        change.fill(0);
+        for l in 0..self.image.shape.mask_columns as usize {
+            let entering = self.part_at(below, l);
+            let leaving = self.part_at(i, l);
+            swap(change, entering, leaving);
+        }
+    }
+
+    // The sums of column 0 of row i + 1, from those of row i. The lowest of them.
+    fn start_row(&self, i: usize, sums: &mut [u32], change: &mut [u32]) -> u32
+        requires next { i + 1 < self.now.image.shape.rows }
+        requires ticks { length change.old ≡ self.now.image.shape.cycle }
+        requires column { ColumnSums self.now.image i 0 sums.old }
+        ensures differences { RowChange self.now.image i 0 change.new }
+        ensures column { ColumnSums self.now.image (i + 1) 0 sums.new }
+        ensures lowest { result ≡ lowest_sum self.now.image (i + 1) 0 }
+    {
+        self.first_change(i, change);
+        add(sums, change);
+        lowest_of(sums)
+    }
+
+    // The sums of column j + 1 of row i + 1, from those of row i and the differences at column j. The lowest of them.
+    fn advance(&self, i: usize, j: usize, sums: &mut [u32], change: &mut [u32]) -> u32
+        requires next_row { i + 1 < self.now.image.shape.rows }
+        requires next_column { j + 1 < self.now.image.shape.columns }
+        requires differences { RowChange self.now.image i j change.old }
+        requires column { ColumnSums self.now.image i (j + 1) sums.old }
+        ensures differences { RowChange self.now.image i (j + 1) change.new }
+        ensures column { ColumnSums self.now.image (i + 1) (j + 1) sums.new }
+        ensures lowest { result ≡ lowest_sum self.now.image (i + 1) (j + 1) }
+    {
+        let below = i + self.image.shape.mask_rows as usize;
+        let ahead = j + self.image.shape.mask_columns as usize;
+        let in1 = self.part_at(below, ahead);
+        let in2 = self.part_at(i, j);
+        let out1 = self.part_at(below, j);
+        let out2 = self.part_at(i, ahead);
+        turn(sums, change, in1, in2, out1, out2)
+    }
+
+    // The sums of column j of row i + 1, from those of row i. The lowest of them.
+    pub fn move_down(&self, i: usize, j: usize, sums: &mut [u32], change: &mut [u32]) -> u32
+        requires next { i + 1 < self.now.image.shape.rows }
+        requires image_column { j < self.now.image.shape.columns }
+        requires before { Descent self.now.image i j sums.old change.old }
+        ensures after { Descent self.now.image i (j + 1) sums.new change.new }
+        ensures lowest { result ≡ lowest_sum self.now.image (i + 1) j }
+    {
+        let cycle = self.image.shape.cycle as usize;
+        let column = &mut sums[j * cycle..(j + 1) * cycle];
+        if j == 0 {
+            self.start_row(i, column, change)
+        } else {
+            self.advance(i, j - 1, column, change)
+        }
+    }
 }

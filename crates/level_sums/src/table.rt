@@ -3,10 +3,9 @@
 ghost use Rattle.std.specs.Prelude.{◌≡◌, ◌*◌, ◌%◌, ◌≤◌, ◌<◌, replicate};
 ghost use Rattle.refusal.specs.Limits.{level_cycle};
 ghost use Rattle.cycle.specs.Distance.{distance};
-ghost use Rattle.cycle.specs.List.{ListFor};
 ghost use Rattle.level_sums.specs.Table.{Table, table_length};
 
-use cycle::{apart_by, is_listed, listed_distances};
+use cycle::apart;
 use refusal::limits::LEVEL_CYCLE;
 
 // The numbers in the table: two rounds of the longest cycle that the engine takes, and one of zeros.
@@ -21,35 +20,22 @@ fn wrapped(cycle: usize, k: usize) -> usize
 }
 
 // The distance of tick k modulo the cycle to tick 0.
-fn distance_at(list: &[u16], cycle: usize, k: usize) -> u32
-    requires { (cycle ≤ level_cycle) × (k < 2 * cycle) × ListFor cycle list.now }
+fn distance_at(cycle: usize, k: usize) -> u32
+    requires limit { cycle ≤ level_cycle }
+    requires rounds { k < 2 * cycle }
     ensures { result ≡ distance cycle (k % cycle) 0 }
 {
     let tick = wrapped(cycle, k);
-    apart_by(list, cycle as u16, tick as u16, 0) as u32
+    apart(cycle as u16, tick as u16, 0) as u32
 }
 
-// Fills two rounds of a table of zeros, with the list lent where it is used.
-fn distances_by(list: &[u16], cycle: usize, table: &mut [u32])
-    requires { (cycle ≤ level_cycle) × (table.old ≡ replicate table_length 0) × ListFor cycle list.now }
+// Fills two rounds of a table of zeros.
+pub fn distances(cycle: usize, table: &mut [u32; TABLE])
+    requires limit { cycle ≤ level_cycle }
+    requires zeros { table.old ≡ replicate table_length 0 }
     ensures { Table cycle table.new }
 {
-    let mut k = 0;
-    while k < 2 * cycle {
-        table[k] = distance_at(list, cycle, k);
-        k += 1;
-    }
-}
-
-// The same; the list is made here, where it is used.
-pub fn distances(cycle: usize, table: &mut [u32])
-    requires { (cycle ≤ level_cycle) × (table.old ≡ replicate table_length 0) }
-    ensures { Table cycle table.new }
-{
-    if is_listed(cycle as u16) {
-        let list = listed_distances();
-        distances_by(&list, cycle, table);
-    } else {
-        distances_by(&[], cycle, table);
+    for k in 0..2 * cycle {
+        table[k] = distance_at(cycle, k);
     }
 }

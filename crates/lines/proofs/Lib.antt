@@ -1,4 +1,4 @@
 pub mod Padding
-pub mod Edges
+pub mod Edging
 pub mod Standing
 pub mod Given

@@ -1,23 +1,25 @@
 -- The line of the centres, on the way to what stands in for the silent ones: reading by reading, the first heard one is kept.
 -- Assumes nothing.
-use Prim.Native.Nat.{ℕ, zero, suc, ◌+◌, ◌-◌, ◌*◌, ◌≤◌}
+use Prim.Native.Nat.{ℕ, zero, suc, ◌+◌, ◌-◌, ◌≤◌, ◌<◌}
 use mathlib.Core.Path.{◌≡◌, sym, ◌∙◌}
-use mathlib.Core.Logic.{inl, inr}
 use mathlib.Core.List.{List, [], ◌∷◌, ◌++◌, append-nil}
 use native.Mathlib.Omega.{arith}
 use native.Mathlib.Nat.{add-zero}
-use lib.ListN.{get_or}
+use lib.ListN.{length, take, drop, get_or}
+use lib.Seq.{get_or-take, length-take-le}
 use Rattle.cycle.specs.Silence.{first_heard}
 use Rattle.cycle.proofs.SilenceLaws.{unheard, heard_case, heard-none, first-silent, first_stays, first_next}
+use Rattle.shape.specs.Rules.{row_of}
 use Rattle.shape.specs.declared.Shape.{Shape}
 use Rattle.memory.specs.Memory.{Changed}
-use Rattle.memory.specs.Parts.{copied}
-use Rattle.memory.proofs.Memory.{changed_first}
+use Rattle.memory.specs.Parts.{held}
+use Rattle.memory.proofs.Memory.{changed_first, part-reads}
 use Rattle.window.specs.Window.{padded, stretch, block, part, centre}
 use Rattle.window.specs.Phase.{centre_at}
 use Rattle.window.proofs.Sums.{block_more}
 use Rattle.window.proofs.Part.{part_empty, part-next, part_row, part-whole}
-use Rattle.lines.specs.Lines.{IsLine, Line, Centres, Standing, AllHeard, heard_or, stood_in, GoesOn, padded_length}
+use Rattle.lines.proofs.Padding.{row-reads}
+use Rattle.lines.specs.Lines.{IsLine, PaddedLine, Centres, Standing, AllHeard, heard_or, stood_in, padded_length}
 
 -- one reading more after those that were looked at
 first_more : (xs : List ℕ) (z : ℕ) → heard_or (first_heard xs) z ≡ first_heard (xs ++ (z ∷ []))
@@ -26,17 +28,18 @@ first_more xs z =
 
 module _ {s : Shape} {image : List ℕ} {i : ℕ} where
   -- at first the row itself
-  pub standing_start : {line₀ line : List ℕ} → IsLine line₀ → Changed line₀ line 0 s.columns (copied image (i * s.columns)) → Standing s image i 0 0 line
+  pub standing_start : {line₀ line : List ℕ} → IsLine line₀ → Changed line₀ line 0 s.columns (held (row_of s.columns image i)) → Standing s image i 0 0 line
   unfolding centre
   standing_start b c = record {
     len = c.len ∙ b;
-    holds = λ j h. changed_first c j h ∙ rw (part_empty 0 s image i j) (sym (first_next [] _ (first-silent [] heard-none)));
+    holds = λ j h.
+        changed_first c j h ∙ row-reads s.columns image i j h ∙ rw (part_empty 0 s image i j) (sym (first_next [] _ (first-silent [] heard-none)));
   }
 
   module _ {k : ℕ} {line : List ℕ} where
     -- a reading of each window more
-    pub standing_more : {row line' : List ℕ} {l : ℕ} → Standing s image i k l line → l + s.columns ≤ padded_length s → Line s image (i + k) row
-        → Changed line line' 0 s.columns (stood_in line row l) → Standing s image i k (l + 1) line'
+    pub standing_more : {row line' : List ℕ} {l : ℕ} → Standing s image i k l line → l + s.columns ≤ padded_length s → PaddedLine s image (i + k) row
+        → Changed line line' 0 s.columns (λ j. heard_or (get_or line j 0) (get_or row (l + j) 0)) → Standing s image i k (l + 1) line'
     standing_more {l = l} t fits x c = record {
       len = c.len ∙ t.len;
       holds = λ j h.
@@ -46,8 +49,8 @@ module _ {s : Shape} {image : List ℕ} {i : ℕ} where
     }
 
     -- a mask row is done
-    pub standing_row : Standing s image i k s.mask_columns line → Standing s image i (k + 1) 0 line
-    standing_row t = record { len = t.len; holds = λ j h. t.holds j h ∙ rw (part_row 0 s image i j k) }
+    pub standing_row : {l : ℕ} → Standing s image i k l line → l ≡ s.mask_columns → Standing s image i (k + 1) 0 line
+    standing_row t e = record { len = t.len; holds = λ j h. (rw e at t).holds j h ∙ rw (part_row 0 s image i j k) }
 
     -- where all are heard, those of the next mask row change nothing
     standing_next : Standing s image i k 0 line → AllHeard line s.columns → Standing s image i (k + 1) 0 line
@@ -69,19 +72,20 @@ module _ {s : Shape} {image : List ℕ} {i : ℕ} where
       let e : k + 1 + m ≡ k + suc m = omega arith in
       rw e at (standing_on m (k + 1) (standing_next t all) all)
 
-  pub standing_done : {k : ℕ} {line : List ℕ} → k ≤ s.mask_rows → Standing s image i k 0 line
-      → AllHeard line s.columns → Standing s image i s.mask_rows 0 line
-  standing_done {k} h t all =
-      let e : k + (s.mask_rows - k) ≡ s.mask_rows = omega arith in
-      rw e at (standing_on (s.mask_rows - k) k t all)
-
   -- all of the window is looked at
-  pub standing_all : {line : List ℕ} → Standing s image i s.mask_rows 0 line → Centres s image i line
+  pub standing_all : {k : ℕ} {line : List ℕ} → Standing s image i k 0 line → k ≡ s.mask_rows → Centres s image i line
   unfolding centre_at
-  standing_all t = record { len = t.len; holds = λ j h. t.holds j h ∙ rw (part-whole 0 s image i j) }
+  standing_all t e = record { len = t.len; holds = λ j h. (rw e at t).holds j h ∙ rw (part-whole 0 s image i j) }
 
--- where looking goes on, the centres are looked for as far as that
-pub goes_on : {s : Shape} {image : List ℕ} {i k next : ℕ} {line : List ℕ} → GoesOn line s.columns k s.mask_rows next → k ≤ s.mask_rows
-    → Standing s image i k 0 line → (next ≤ s.mask_rows) × Standing s image i next 0 line × (k ≤ next)
-goes_on (inl e) h t = (omega arith, rw e t, omega arith)
-goes_on (inr a) h t = (omega (arith, a.0), rw a.0 (standing_done h t a.1), omega (arith, a.0))
+  -- or all are heard before
+  pub standing_done : {k : ℕ} {line : List ℕ} → k ≤ s.mask_rows → Standing s image i k 0 line → AllHeard line s.columns → Centres s image i line
+  standing_done {k} h t all = standing_all (standing_on (s.mask_rows - k) k t all) (omega arith)
+
+-- the readings of a line's front are those of the line
+pub heard_front : (n : ℕ) (line : List ℕ) → AllHeard (take n line) (length (take n line)) → n ≤ length line → AllHeard line n
+heard_front n line all room j h = rw (get_or-take n line j 0 h) at (all j (omega (arith, length-take-le n line room)))
+
+-- what is looked at in n centres and in the readings from place l on
+pub stood-in-part : (n m l : ℕ) (line row : List ℕ) (j : ℕ) → j < n → j < m
+    → stood_in (take n line) (take m (drop l row)) j ≡ heard_or (get_or line j 0) (get_or row (l + j) 0)
+stood-in-part n m l line row j h g = rw (get_or-take n line j 0 h, part-reads row l m j g)

@@ -1,16 +1,21 @@
 -- Laws of `sets` of lib.Seq, a run of stores: runs that follow each other, and what they leave at the front. Assumes nothing.
 use Prim.Native.Nat.{ℕ, suc, ◌+◌, ◌≤◌}
 use mathlib.Core.Path.{◌≡◌, refl, ap, ◌∙◌}
-use mathlib.Core.List.{List, [], ◌∷◌, ◌++◌}
+use mathlib.Core.List.{List, [], ◌∷◌, ◌++◌, append_assoc}
 use native.Mathlib.Omega.{arith}
 use native.Mathlib.Nat.{add-zero, zero-add}
+use borrow.Rule.Slice.PartMut.{put_mid}
 use lib.ListN.{length, take, drop, length-append}
-use lib.Seq.{sets, sets-eq, length-sets, take_at}
+use lib.Seq.{sets, sets-eq, length-sets, take_at, drop-drop}
 use Rattle.lists.specs.Front.{at_front}
 
 pub sets_append : {A : Type 0} (l : List A) (at : ℕ) (xs ys : List A) (next : ℕ) → next ≡ at + length xs → sets (sets l at xs) next ys ≡ sets l at (xs ++ ys)
 sets_append l at [] ys next e = ap (λ (k : ℕ). sets l k ys) (e ∙ add-zero at)
 sets_append l at (x ∷ xs) ys next e = sets_append _ (suc at) xs ys next (omega arith)
+
+-- a part that was lent comes back as xs
+pub put_mid-sets : {A : Type 0} (l xs : List A) (at n : ℕ) → length xs ≡ n → at + n ≤ length l → put_mid at n l xs ≡ sets l at xs
+put_mid-sets l xs at n e h = rw (sets-eq xs l at (omega arith), e, append_assoc, drop-drop)
 
 -- from the start on
 pub sets_front : {A : Type 0} (l xs : List A) → length xs ≤ length l → sets l 0 xs ≡ at_front xs l

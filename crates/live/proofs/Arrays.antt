@@ -1,33 +1,26 @@
 -- Laws of the arrays of a live window: once a reading has entered they are those of the longer history. Assumes nothing.
-use Prim.Native.Nat.{ℕ, ◌+◌, ◌-◌, ◌≤◌, ◌<◌}
-use mathlib.Core.Path.{◌≡◌, refl, ap, sym, ◌∙◌}
-use mathlib.Core.Bool.{true}
-use mathlib.Core.List.{List, [], ◌∷◌, ◌++◌, append-nil}
-use native.Mathlib.Omega.{arith}
+use Rattle.std.proofs.Common.{ℕ, ◌+◌, ◌-◌, ◌≤◌, ◌<◌, ◌≡◌, nat_lt, if◌then◌else◌, ap, sym, ◌∙◌, true, List, [], ◌∷◌, ◌++◌, append-nil, arith, lt-ltb, le-ltb, length, drop, get_or, replicate, ext_get_or}
 use native.Mathlib.Decide.{dec_lt}
-use borrow.Author.Tests.{lt-ltb, le-ltb}
-use lib.ListN.{length, get_or, replicate, length-replicate, get_or-replicate}
-use lib.Seq.{ext_get_or}
+use lib.ListN.{length-replicate, get_or-replicate}
 use Rattle.lists.specs.Members.{Each}
 use Rattle.lists.specs.Tabulate.{tabulate}
-use Rattle.lists.proofs.Tabulate.{length-tabulate}
+use Rattle.lists.proofs.Tabulate.{length-tabulate, tabulate-append, tabulate_cong}
+use Rattle.std.proofs.lemmas.List.{drop_at}
 use Rattle.refusal.specs.Limits.{live_length}
 use Rattle.cycle.specs.Silence.{silent, is_reading}
 use Rattle.median.proofs.Sum.{shares-silent}
-use Rattle.memory.specs.Memory.{Changed}
-use Rattle.memory.proofs.Memory.{changed_first}
 use Rattle.live.specs.Window.{latest_of, reading_at, sum_of, readings_of, sums_of}
-use Rattle.live_passes.specs.Passes.{entered_reading, entered_sum}
+use Rattle.live_passes.specs.Passes.{slid, distances_to, last_of, entered_reading, entered_sum}
 use Rattle.live.proofs.Sizes.{Sizes}
 use Rattle.live.proofs.Latest.{reading-place, reading_beyond, reading-next, reading_newest}
-use Rattle.live.proofs.Sliding.{place-holds, slid_live, newest_live}
+use Rattle.live.proofs.Sliding.{place-holds, held_readings, held_sums, slid_live, newest_live}
 
 -- an array that is one number throughout
 pub all_one : (v : ℕ) (f : ℕ → ℕ) → ((k : ℕ) → f k ≡ v) → replicate live_length v ≡ tabulate f 0 live_length
 all_one v f e =
     ext_get_or 0 (replicate live_length v) (tabulate f 0 live_length) (length-replicate live_length v ∙ sym (length-tabulate f 0 live_length))
     (λ k h. let l : k < live_length = omega (arith, length-replicate live_length v) in
-    get_or-replicate live_length k v 0 l ∙ sym (place-holds f k l ∙ e k))
+    get_or-replicate live_length k v 0 l ∙ sym (place-holds f live_length k l ∙ e k))
 
 -- fresh: all silent, all sums 0
 pub fresh_reading : (t k : ℕ) → reading_at t [] k ≡ silent
@@ -40,45 +33,72 @@ fresh_reading t k = go (dec_lt k t)
 pub fresh_sum : (c t k : ℕ) → sum_of c t [] k ≡ 0
 fresh_sum c t k = shares-silent c (reading_at t [] k) (latest_of t []) (fresh_reading t k)
 
--- an array of which the first t places changed
-changed_array : {w w' : List ℕ} {t : ℕ} {f : ℕ → ℕ} (old new : ℕ → ℕ) → w ≡ tabulate old 0 live_length → Changed w w' 0 t f
-    → ((k : ℕ) → k < t → f k ≡ new k) → ((k : ℕ) → t ≤ k → old k ≡ new k) → w' ≡ tabulate new 0 live_length
-changed_array {w} {w'} {t} {f} old new is c inside outside =
-    ext_get_or 0 w' (tabulate new 0 live_length) (len ∙ sym (length-tabulate new 0 live_length))
-    (λ k h. let l : k < live_length = omega (arith, len) in at k (dec_lt k t) l ∙ sym (place-holds new k l))
-  where
-    len : length w' ≡ live_length
-    len = c.len ∙ ap length is ∙ length-tabulate old 0 live_length
+-- a list by its places
+part-is : (f : ℕ → ℕ) {part : List ℕ} {t : ℕ} → length part ≡ t → ((k : ℕ) → k < length part → get_or part k 0 ≡ f k) → part ≡ tabulate f 0 t
+part-is f {part} {t} long each =
+    ext_get_or 0 part (tabulate f 0 t) (long ∙ sym (length-tabulate f 0 t)) (λ k h. each k h ∙ sym (place-holds f t k (omega arith)))
 
-    at : (k : ℕ) → Dec (k < t) → k < live_length → get_or w' k 0 ≡ new k
-    at k (yes h) l = changed_first c k h ∙ inside k h
-    at k (no h) l = c.after k (omega arith) ∙ ap (λ (m : List ℕ). get_or m k 0) is ∙ place-holds old k l ∙ outside k (omega arith)
+-- an array of which the first t places changed
+array-is : (old new : ℕ → ℕ) (t : ℕ) → t ≤ live_length → ((k : ℕ) → t ≤ k → old k ≡ new k)
+    → tabulate new 0 t ++ drop t (tabulate old 0 live_length) ≡ tabulate new 0 live_length
+array-is old new t fits rest =
+    let whole : live_length ≡ t + (live_length - t) = omega arith in
+    let here : 0 + t ≡ t = omega arith in
+    let split = λ (f : ℕ → ℕ). tabulate-append f 0 t (live_length - t) ∙ ap (tabulate f 0) (sym whole) in
+    let left : drop t (tabulate old 0 live_length) ≡ tabulate old (0 + t) (live_length - t) =
+    ap (drop t) (sym (split old)) ∙ drop_at (tabulate old 0 t) (tabulate old (0 + t) (live_length - t)) t (length-tabulate old 0 t) in
+    ap (λ (l : List ℕ). tabulate new 0 t ++ l) (left ∙ tabulate_cong old new (0 + t) (0 + t) (live_length - t) (λ k h. rest (0 + t + k) (omega arith))) ∙ split new
 
 module _ (c t : ℕ) (history : List ℕ) (x : ℕ) (sizes : Sizes c t) (good : Each (λ z. is_reading c z ≡ true) history)
     (reads : is_reading c x ≡ true) where
-  pub readings_entered : {w' : List ℕ} → Changed (readings_of t history) w' 0 t (entered_reading x t (readings_of t history))
-      → w' ≡ readings_of t (history ++ (x ∷ []))
-  readings_entered d =
-      changed_array (reading_at t history) (reading_at t (history ++ (x ∷ []))) refl d (λ k h. inside k h (dec_lt k (t - 1)))
-      (λ k h. reading_beyond t history k h ∙ sym (reading_beyond t (history ++ (x ∷ [])) k h))
-    where
-      inside : (k : ℕ) → k < t → Dec (k < t - 1) → entered_reading x t (readings_of t history) k ≡ reading_at t (history ++ (x ∷ [])) k
-      inside k h (yes l) =
-          rw (lt-ltb k (t - 1) l) (place-holds (reading_at t history) (k + 1) (omega arith) ∙ sym (reading-next t history x k (omega arith)))
-      inside k h (no l) =
-          let last : k ≡ t - 1 = omega arith in
-          rw (le-ltb k (t - 1) (omega arith)) (sym (ap (reading_at t (history ++ (x ∷ []))) last ∙ reading_newest t history x sizes.some))
+  abbrev more : List ℕ
+  more = history ++ (x ∷ [])
 
-  pub sums_entered : {w' : List ℕ} → Changed (sums_of c t history) w' 0 t (entered_sum c x t (readings_of t history) (sums_of c t history)) → w' ≡ sums_of c t (history ++ (x ∷ []))
-  sums_entered d =
-      changed_array (sum_of c t history) (sum_of c t (history ++ (x ∷ []))) refl d (λ k h. inside k h (dec_lt k (t - 1)))
-      (λ k h. beyond history k h ∙ sym (beyond (history ++ (x ∷ [])) k h))
-    where
-      beyond : (l : List ℕ) (k : ℕ) → t ≤ k → sum_of c t l k ≡ 0
-      beyond l k h = shares-silent c (reading_at t l k) (latest_of t l) (reading_beyond t l k h)
+  abbrev readings : List ℕ
+  readings = held_readings t history
 
-      inside : (k : ℕ) → k < t → Dec (k < t - 1) → entered_sum c x t (readings_of t history) (sums_of c t history) k ≡ sum_of c t (history ++ (x ∷ [])) k
-      inside k h (yes l) = rw (lt-ltb k (t - 1) l) (slid_live c t history x sizes good reads k (omega arith))
-      inside k h (no l) =
-          let last : t - 1 ≡ k = omega arith in
-          rw (le-ltb k (t - 1) (omega arith)) (newest_live c t history x sizes good reads ∙ ap (sum_of c t (history ++ (x ∷ []))) last)
+  abbrev sums : List ℕ
+  sums = held_sums c t history
+
+  -- a window has t places
+  last : last_of readings ≡ t - 1
+  last = ap (λ (n : ℕ). n - 1) (length-tabulate (reading_at t history) 0 t)
+
+  reading_inside : (k : ℕ) → k < t → entered_reading x readings k ≡ reading_at t more k
+  reading_inside k h = rw last (go (dec_lt k (t - 1)))
+    where
+      go : Dec (k < t - 1) → (if nat_lt k (t - 1) then get_or readings (k + 1) 0 else x) ≡ reading_at t more k
+      go (yes l) =
+          rw (lt-ltb k (t - 1) l) (place-holds (reading_at t history) t (k + 1) (omega arith) ∙ sym (reading-next t history x k (omega arith)))
+      go (no l) =
+          let newest : k ≡ t - 1 = omega arith in
+          rw (le-ltb k (t - 1) (omega arith)) (sym (ap (reading_at t more) newest ∙ reading_newest t history x sizes.some))
+
+  sum_inside : (k : ℕ) → k < t → entered_sum c x readings sums k ≡ sum_of c t more k
+  sum_inside k h = rw last (go (dec_lt k (t - 1)))
+    where
+      go : Dec (k < t - 1) → (if nat_lt k (t - 1) then slid c x readings sums k else distances_to c x readings (t - 1)) ≡ sum_of c t more k
+      go (yes l) = rw (lt-ltb k (t - 1) l) (slid_live c t history x sizes good reads k (omega arith))
+      go (no l) =
+          let newest : t - 1 ≡ k = omega arith in
+          rw (le-ltb k (t - 1) (omega arith)) (newest_live c t history x sizes good reads ∙ ap (sum_of c t more) newest)
+
+  -- behind the window there is silence
+  sum_beyond : (l : List ℕ) (k : ℕ) → t ≤ k → sum_of c t l k ≡ 0
+  sum_beyond l k h = shares-silent c (reading_at t l k) (latest_of t l) (reading_beyond t l k h)
+
+  -- the parts of the arrays that the window takes, and the arrays
+  module _ {part : List ℕ} (long : length part ≡ t) where
+    pub readings_entered : ((k : ℕ) → k < length part → get_or part k 0 ≡ entered_reading x readings k) → part ≡ held_readings t more
+    readings_entered each = part-is (reading_at t more) long (λ k h. each k h ∙ reading_inside k (omega arith))
+
+    pub sums_entered : ((k : ℕ) → k < length part → get_or part k 0 ≡ entered_sum c x readings sums k) → part ≡ held_sums c t more
+    sums_entered each = part-is (sum_of c t more) long (λ k h. each k h ∙ sum_inside k (omega arith))
+
+  pub readings_array : held_readings t more ++ drop t (readings_of t history) ≡ readings_of t more
+  readings_array =
+      array-is (reading_at t history) (reading_at t more) t sizes.fits
+      (λ k h. reading_beyond t history k h ∙ sym (reading_beyond t more k h))
+
+  pub sums_array : held_sums c t more ++ drop t (sums_of c t history) ≡ sums_of c t more
+  sums_array = array-is (sum_of c t history) (sum_of c t more) t sizes.fits (λ k h. sum_beyond history k h ∙ sym (sum_beyond more k h))

@@ -1,35 +1,23 @@
 -- What the code of the live window's calls does is what the calls promise. Assumes nothing.
-use Prim.Native.Nat.{ℕ, ◌+◌, ◌<◌, min}
-use mathlib.Core.Path.{◌≡◌, refl, ap, sym, ◌∙◌}
-use mathlib.Core.Bool.{true, cond}
-use mathlib.Core.List.{List, [], ◌∷◌, ◌++◌}
-use native.Mathlib.Omega.{arith}
+use Rattle.std.proofs.Common.{ℕ, ◌+◌, ◌<◌, min, ◌≡◌, refl, ap, sym, ◌∙◌, true, List, [], ◌∷◌, ◌++◌, arith, lt-ltb, le-ltb, length, get_or, take, drop, Result, Ok, Err, replicate, length-append}
 use native.Mathlib.Decide.{dec_lt}
-use borrow.Author.Tests.{lt-ltb, le-ltb}
-use lib.Dec.{ltb}
-use lib.ListN.{length, replicate, length-append}
 use Rattle.lists.specs.Members.{Each}
 use Rattle.lists.proofs.Members.{each_append}
+use Rattle.lists.proofs.Tabulate.{length-tabulate, take-tabulate}
 use Rattle.refusal.specs.Limits.{live_length}
-use Rattle.refusal.specs.Outcome.{first_due, Clear, verdict}
-use Rattle.refusal.specs.Outcome.Outcome.{accepted}
-use Rattle.refusal.specs.declared.Verdict.{Verdict}
-use Rattle.refusal.specs.declared.Verdict.TheVariants.{Passed, Refused}
 use Rattle.refusal.specs.declared.Refusal.{Refusal}
-use Rattle.refusal.proofs.Outcome.{not_refused, clear_accepted, passed_clear, refused_alone}
+use Rattle.refusal.specs.Outcome.{Clear, refusal, outcome, after}
+use Rattle.refusal.specs.Outcome.Outcome.{accepted}
+use Rattle.refusal.proofs.Outcome.{not_refused, clear_accepted, handed_alone, told, after-refused}
 use Rattle.cycle.specs.Silence.{silent, is_reading}
-use Rattle.memory.specs.Memory.{Changed}
 use Rattle.live.specs.declared.LiveWindow.{LiveWindow}
-use Rattle.live.specs.declared.FreshAnswer.TheVariants as made
-use Rattle.live.specs.declared.LiveAnswer.{LiveAnswer}
-use Rattle.live.specs.declared.LiveAnswer.TheVariants as live
-use Rattle.live.specs.Window.{reading_at, sum_of, live_phase, result_of, result_after, readings_of, sums_of, window_of, live_after}
-use Rattle.live.specs.Window.LiveResult.{filling}
-use Rattle.live.specs.Calls.{window_rules, push_rules, fresh_due, push_due, live_told, Live, FreshCall, PushCall}
+use Rattle.live.specs.declared.Live.{Live}
+use Rattle.live.specs.Window.{reading_at, sum_of, live_phase, result_by, result_after, readings_of, sums_of, window_of, live_after}
+use Rattle.live.specs.Calls.{window_rules, push_rules, fresh_due, push_due, whether_accepted, Ours, FreshCall, PushCall}
 use Rattle.live_passes.specs.Passes.{entered_reading, entered_sum, phase_in}
-use Rattle.live.specs.Told.{result_by}
 use Rattle.live.proofs.Sizes.{Sizes, push_clear}
-use Rattle.live.proofs.Arrays.{all_one, fresh_reading, fresh_sum, readings_entered, sums_entered}
+use Rattle.live.proofs.Sliding.{held_readings, held_sums}
+use Rattle.live.proofs.Arrays.{all_one, fresh_reading, fresh_sum, readings_entered, sums_entered, readings_array, sums_array}
 use Rattle.live.proofs.Found.{phase-found}
 
 -- a window with nothing pushed
@@ -41,33 +29,28 @@ empty_window c t =
     let sums = all_one 0 (sum_of c t []) (fresh_sum c t) in
     cc
 
--- A new window, refused and accepted.
-module _ {c t : ℕ} {old : LiveWindow} {r : Verdict} (said : verdict r ≡ first_due (window_rules c t) tt) where
-  pub fresh_refused : {f : Refusal} → r ≡ Refused f → FreshCall c t old (made.Refused f) old
-  unfolding fresh_due
-  fresh_refused e = record { answer = sym (refused_alone (window_rules c t) said tt e); window = refl }
-
-  pub fresh_passed : {w₁ : LiveWindow} → r ≡ Passed → w₁ ≡ live_after c t [] → FreshCall c t old made.Fresh w₁
-  unfolding fresh_due
-  fresh_passed e is = record { answer = sym (clear_accepted tt (window_rules c t) (passed_clear (window_rules c t) said e)); window = is }
-
 -- a window of ours has its own C and T
-pub live_own : {c t : ℕ} {history : List ℕ} {w : LiveWindow} → Live c t history w → (w.cycle ≡ c) × (w.length ≡ t)
+pub live_own : {c t : ℕ} {history : List ℕ} {w : LiveWindow} → Ours c t history w → (w.cycle ≡ c) × (w.length ≡ t)
 unfolding live_after
 live_own l = (ap (λ (w : LiveWindow). w.cycle) l.is, ap (λ (w : LiveWindow). w.length) l.is)
 
+-- A new window, by what its tests say.
+pub fresh_call : {c t : ℕ} {old w₁ : LiveWindow} {r : Result Unit Refusal} → outcome r ≡ told (window_rules c t)
+    → w₁ ≡ after (outcome r) (λ u. live_after c t []) old → FreshCall c t old r w₁
+unfolding fresh_due
+fresh_call said is = record { answer = said; window = is }
+
 -- A push that is refused.
-pub push_refused : (w : LiveWindow) (x : ℕ) {r : Verdict} {f : Refusal} → verdict r ≡ first_due (push_rules w.cycle w.length x) tt → r ≡ Refused f
-    → PushCall w x (live.Refused f) w
+pub push_refused : (w : LiveWindow) (x : ℕ) {f : Refusal} {r : Result Live Refusal} → refusal f ≡ told (push_rules w.cycle w.length x) → r ≡ Err f → PushCall w x r w
 unfolding push_due
 push_refused w x said e = record {
-  tests = sym (refused_alone (push_rules w.cycle w.length x) said tt e);
+  tests = ap (λ (r : Result Live Refusal). whether_accepted (outcome r)) e ∙ said;
   numbers = (refl, refl);
-  unchanged = λ n k said. refl;
+  unchanged = λ n k e. refl;
   answer = λ c t history l.
       let own = live_own l in
-      rw (← own.0, ← own.1) (sym (refused_alone (push_rules w.cycle w.length x) said (result_after w.cycle w.length (history ++ (x ∷ []))) e));
-  window = λ c t history l. refl;
+      rw (← own.0, ← own.1) (handed_alone (push_rules w.cycle w.length x) (result_after w.cycle w.length (history ++ (x ∷ []))) said e);
+  window = λ c t history l. sym (after-refused _ w (ap outcome e));
 }
 
 -- the count says whether the window is still filling
@@ -75,22 +58,24 @@ result-after : (c t n filled : ℕ) (history : List ℕ) → length history ≡ 
 unfolding result_after
 result-after c t n filled history len e = go (dec_lt n t)
   where
-    go : Dec (n < t) → result_by t filled (live_phase c t history) ≡ cond (ltb (length history) t) filling (result_of (live_phase c t history))
+    go : Dec (n < t) → result_by t filled (live_phase c t history) ≡ result_by t (length history) (live_phase c t history)
     go (yes h) = rw (lt-ltb filled t (omega arith), lt-ltb (length history) t (omega arith))
     go (no h) = rw (le-ltb filled t (omega arith), le-ltb (length history) t (omega arith))
 
--- A push that passes: what the code does to the arrays, the count and the answer.
-pub record EnteredBy (c t filled x : ℕ) (readings sums : List ℕ) (told : LiveAnswer) (filled₁ : ℕ) (readings₁ sums₁ : List ℕ) : Type 0 where
+-- A push that passes: what the code does to the parts of the arrays that the window takes, to the count and the answer.
+pub record EnteredBy (c t filled x : ℕ) (readings sums : List ℕ) (told : Live) (filled₁ : ℕ) (readings₁ sums₁ : List ℕ) : Type 0 where
   pub tested : Clear (push_rules c t x)
-  pub into_readings : Changed readings readings₁ 0 t (entered_reading x t readings)
-  pub into_sums : Changed sums sums₁ 0 t (entered_sum c x t readings sums)
+  pub readings_long : length readings₁ ≡ t
+  pub sums_long : length sums₁ ≡ t
+  pub into_readings : (k : ℕ) → k < length readings₁ → get_or readings₁ k 0 ≡ entered_reading x (take t readings) k
+  pub into_sums : (k : ℕ) → k < length sums₁ → get_or sums₁ k 0 ≡ entered_sum c x (take t readings) (take t sums) k
   pub count : filled₁ ≡ min (filled + 1) t
-  pub answer : live_told told ≡ accepted (result_by t filled₁ (phase_in c t readings₁ sums₁))
+  pub answer : told ≡ result_by (length readings₁) filled₁ (phase_in c readings₁ sums₁)
 
-module _ {c t filled x : ℕ} {readings sums : List ℕ} {told : LiveAnswer} {filled₁ : ℕ} {readings₁ sums₁ : List ℕ}
+module _ {c t filled x : ℕ} {readings sums : List ℕ} {told : Live} {filled₁ : ℕ} {readings₁ sums₁ : List ℕ}
     (e : EnteredBy c t filled x readings sums told filled₁ readings₁ sums₁) where
   -- of a window of ours it makes the one with the reading added
-  module _ (history : List ℕ) (l : Live c t history (window_of c t filled readings sums)) where
+  module _ (history : List ℕ) (l : Ours c t history (window_of c t filled readings sums)) where
     abbrev more : List ℕ
     more = history ++ (x ∷ [])
 
@@ -115,13 +100,17 @@ module _ {c t filled x : ℕ} {readings sums : List ℕ} {told : LiveAnswer} {fi
     unfolding live_after
     sums_were = ap (λ (w : LiveWindow). w.sums) l.is
 
-    readings_now : readings₁ ≡ readings_of t more
-    readings_now =
-        readings_entered c t history x sizes l.readings reads (rw readings_were at e.into_readings)
+    readings_held : take t readings ≡ held_readings t history
+    readings_held = rw readings_were (take-tabulate (reading_at t history) 0 t live_length sizes.fits)
 
-    sums_now : sums₁ ≡ sums_of c t more
-    sums_now =
-        sums_entered c t history x sizes l.readings reads (rw (readings_were, sums_were) at e.into_sums)
+    sums_held : take t sums ≡ held_sums c t history
+    sums_held = rw sums_were (take-tabulate (sum_of c t history) 0 t live_length sizes.fits)
+
+    readings_now : readings₁ ≡ held_readings t more
+    readings_now = readings_entered c t history x sizes l.readings reads e.readings_long (rw readings_held at e.into_readings)
+
+    sums_now : sums₁ ≡ held_sums c t more
+    sums_now = sums_entered c t history x sizes l.readings reads e.sums_long (rw (readings_held, sums_held) at e.into_sums)
 
     length_more : length more ≡ length history + 1
     length_more = length-append history (x ∷ [])
@@ -129,27 +118,37 @@ module _ {c t filled x : ℕ} {readings sums : List ℕ} {told : LiveAnswer} {fi
     filled_now : filled₁ ≡ min (length history + 1) t
     filled_now = omega (arith, e.count, filled_was)
 
-    window_now : window_of c t filled₁ readings₁ sums₁ ≡ live_after c t more
+    window_now : window_of c t filled₁ (readings₁ ++ drop t readings) (sums₁ ++ drop t sums) ≡ live_after c t more
     unfolding live_after
-    window_now = rw (readings_now, sums_now, filled_now, length_more)
+    window_now =
+        rw (
+          readings_now,
+          sums_now,
+          readings_were,
+          sums_were,
+          readings_array c t history x sizes l.readings reads,
+          sums_array c t history x sizes l.readings reads,
+          filled_now,
+          length_more,
+        )
 
-    told_now : live_told told ≡ accepted (result_after c t more)
+    told_now : told ≡ result_after c t more
     told_now =
         e.answer
-        ∙ rw (readings_now, sums_now) (rw (phase-found c t more sizes good)
-        (ap accepted (result-after c t (length history + 1) filled₁ more length_more filled_now)))
+        ∙ rw (readings_now, sums_now, phase-found c t more sizes good, length-tabulate (reading_at t more) 0 t)
+        (result-after c t (length history + 1) filled₁ more length_more filled_now)
 
-  pub push_passed : PushCall (window_of c t filled readings sums) x told (window_of c t filled₁ readings₁ sums₁)
+  pub push_passed : PushCall (window_of c t filled readings sums) x (Ok told) (window_of c t filled₁ (readings₁ ++ drop t readings) (sums₁ ++ drop t sums))
   unfolding push_due
   push_passed = record {
-    tests = rw e.answer (sym (clear_accepted tt (push_rules c t x) e.tested));
+    tests = sym (clear_accepted tt (push_rules c t x) e.tested);
     numbers = (refl, refl);
-    unchanged = λ n k said. not_refused (sym e.answer ∙ said);
+    unchanged = λ n k said. not_refused said;
     answer = λ c' t' history l.
         let own = live_own l in
         rw (← own.0, ← own.1)
-        (told_now history (rw (← own.0, ← own.1) at l) ∙ sym (clear_accepted (result_after c t (history ++ (x ∷ []))) (push_rules c t x) e.tested));
+        (ap accepted (told_now history (rw (← own.0, ← own.1) at l)) ∙ sym (clear_accepted (result_after c t (history ++ (x ∷ []))) (push_rules c t x) e.tested));
     window = λ c' t' history l.
         let own = live_own l in
-        rw (e.answer, ← own.0, ← own.1) (window_now history (rw (← own.0, ← own.1) at l));
+        rw (← own.0, ← own.1) (window_now history (rw (← own.0, ← own.1) at l));
   }

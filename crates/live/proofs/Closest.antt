@@ -1,10 +1,6 @@
 -- Demand 3 of the phase that a live window answers with: it is a heard one of the last T readings, no point of the cycle is closer to them, and
 -- for an odd number heard an equally close point is one of them; where none is heard, it is silent. Assumes nothing.
-use Prim.Native.Nat.{ℕ, ◌+◌, ◌*◌, ◌<◌}
-use mathlib.Core.Path.{◌≡◌}
-use mathlib.Core.Bool.{true}
-use mathlib.Core.List.{List, []}
-use lib.ListN.{length}
+use Rattle.std.proofs.Common.{ℕ, ◌+◌, ◌*◌, ◌<◌, ◌≡◌, true, List, [], length}
 use Rattle.lists.specs.Members.{In, Each}
 use Rattle.cycle.specs.Silence.{silent, is_reading, heard}
 use Rattle.median.specs.Closest.{NoCloser, EqualIsReading}

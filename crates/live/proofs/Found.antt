@@ -1,20 +1,12 @@
 -- What the code finds in the arrays of a live window is the phase that the paper chooses. The least key is that of a heard reading, and its
 -- rank, from the centre or what stands in for it, is the one that the choice among the heard readings keeps. Assumes nothing.
-use Prim.Native.Nat.{ℕ, ◌+◌, ◌*◌, ◌%◌, ◌^◌, ◌≤◌, ◌<◌, min}
-use mathlib.Core.Path.{◌≡◌, refl, ap, sym, ◌∙◌}
-use mathlib.Core.Bool.{true}
-use mathlib.Core.Logic.{inr}
-use mathlib.Core.List.{List, [], ◌∷◌}
-use native.Mathlib.Omega.{arith}
+use Rattle.std.proofs.Common.{ℕ, ◌+◌, ◌*◌, ◌%◌, ◌^◌, ◌≤◌, ◌<◌, min, ◌≡◌, refl, ap, sym, ◌∙◌, true, inr, List, [], ◌∷◌, arith, mod-eq_of_lt, lt-ltb, le-ltb, length, get_or}
 use native.Mathlib.Decide.{dec_lt}
-use native.Mathlib.Nat.{mod-eq_of_lt}
-use borrow.Author.Tests.{lt-ltb, le-ltb}
-use lib.ListN.{length, get_or}
 use Rattle.lists.specs.Members.{In, Each}
 use Rattle.lists.proofs.Members.{each_in}
-use Rattle.lists.proofs.Tabulate.{in_tabulate, in_place, take-tabulate}
+use Rattle.lists.proofs.Tabulate.{in_tabulate, in_place, length-tabulate}
 use Rattle.lists.proofs.Keep.{in_keep, keep_in}
-use Rattle.refusal.specs.Limits.{longest_cycle, live_length}
+use Rattle.refusal.specs.Limits.{longest_cycle}
 use Rattle.cycle.specs.Silence.{silent, is_heard, is_reading, heard}
 use Rattle.cycle.proofs.SilenceLaws.{unheard, tick-heard, tick-reading, silent-reading, reading_case, heard_ticks}
 use Rattle.shape.specs.Rules.{reach}
@@ -29,11 +21,11 @@ use Rattle.reading_choice.specs.Ranks.{rank_of, tick_of, phase_by}
 use Rattle.reading_choice.specs.Weighed.{Weighed}
 use Rattle.reading_choice.proofs.RankLaws.{rank_is, rank_cycle}
 use Rattle.reading_choice.proofs.Weighing.{outweighed, weighed-chosen}
-use Rattle.live.specs.Window.{latest_of, reading_at, sum_of, live_phase, readings_of, sums_of}
+use Rattle.live.specs.Window.{latest_of, reading_at, sum_of, live_phase}
 use Rattle.live_passes.specs.Passes.{centre_in, tick_or_silent, key_of, key_at, phase_from, phase_in}
 use Rattle.live.proofs.Sizes.{Sizes}
 use Rattle.live.proofs.Latest.{latest-is, reading-reads, latest-reads, middle_in}
-use Rattle.live.proofs.Sliding.{shares_fit, place-holds}
+use Rattle.live.proofs.Sliding.{shares_fit, place-holds, held_readings, held_sums}
 
 -- a reading is what it is taken for
 tick-or-silent : (c q : ℕ) → c ≤ longest_cycle → is_reading c q ≡ true → tick_or_silent c q ≡ q
@@ -51,9 +43,9 @@ lower_key s u r v m h g l = go (dec_lt s u)
         let product : s * m ≡ u * m = ap (λ (n : ℕ). n * m) same in
         omega arith
 
-none_found : (c t : ℕ) {a : ℕ} (readings sums : List ℕ) → a ≡ silent → phase_from c t a readings sums ≡ silent
+none_found : (c : ℕ) {a : ℕ} (readings sums : List ℕ) → a ≡ silent → phase_from c a readings sums ≡ silent
 unfolding phase_from phase_by
-none_found c t {a} readings sums e = rw (unheard a e)
+none_found c {a} readings sums e = rw (unheard a e)
 
 phase-heard : (c a r : ℕ) → is_heard a ≡ true → phase_by c a r ≡ tick_of c a r
 unfolding phase_by
@@ -70,10 +62,10 @@ key-silent c a q s e = rw (unheard q e)
 
 module _ (c t : ℕ) (history : List ℕ) (sizes : Sizes c t) (good : Each (λ z. is_reading c z ≡ true) history) where
   abbrev readings : List ℕ
-  readings = readings_of t history
+  readings = held_readings t history
 
   abbrev sums : List ℕ
-  sums = sums_of c t history
+  sums = held_sums c t history
 
   abbrev zs : List ℕ
   zs = latest_of t history
@@ -87,10 +79,13 @@ module _ (c t : ℕ) (history : List ℕ) (sizes : Sizes c t) (good : Each (λ z
   member : In middle zs
   member = middle_in t history sizes.some
 
+  -- a window has t places
+  long : length readings ≡ t
+  long = length-tabulate (reading_at t history) 0 t
+
   -- the centre that the code takes, or what stands in for it
-  centre-is : centre_in t readings ≡ centre_heard middle zs
-  centre-is =
-      rw (place-holds (reading_at t history) (reach t) (omega arith), take-tabulate (reading_at t history) 0 t live_length sizes.fits, ← (latest-is t history))
+  centre-is : centre_in readings ≡ centre_heard middle zs
+  centre-is = rw (long, place-holds (reading_at t history) t (reach t) (omega (arith, sizes.some)), ← (latest-is t history))
 
   -- something is heard
   module _ (some : 0 < length (heard zs)) where
@@ -115,7 +110,7 @@ module _ (c t : ℕ) (history : List ℕ) (sizes : Sizes c t) (good : Each (λ z
         let was-heard : is_heard q ≡ true = tick-heard c q (omega arith) tick in
         let own : shares c q zs ≡ sum q = shares_sum c q zs was-heard in
         let fits = shares_fit c t q history sizes in
-        rw (place-holds (reading_at t history) k (omega arith), place-holds (sum_of c t history) k (omega arith), ← e, own)
+        rw (place-holds (reading_at t history) t k (omega arith), place-holds (sum_of c t history) t k (omega arith), ← e, own)
         (key-heard c a q (sum q) was-heard (omega arith) ∙ ap (λ (r : ℕ). sum q * 2 ^ 16 + r) (rank_is c a q a_tick tick (omega arith)))
 
     -- each heard reading has a place
@@ -143,7 +138,7 @@ module _ (c t : ℕ) (history : List ℕ) (sizes : Sizes c t) (good : Each (λ z
       where
         none : (k : ℕ) → k < t → reading_at t history k ≡ silent → key_at c a readings sums k ≡ no_sum
         none k h e =
-            rw (place-holds (reading_at t history) k (omega arith)) (key-silent c a (reading_at t history k) (get_or sums k 0) e)
+            rw (place-holds (reading_at t history) t k (omega arith)) (key-silent c a (reading_at t history k) (get_or sums k 0) e)
 
     abbrev best : ℕ
     best = lowest (key_at c a readings sums) t
@@ -165,13 +160,13 @@ module _ (c t : ℕ) (history : List ℕ) (sizes : Sizes c t) (good : Each (λ z
             (λ e. absurd (omega (
               arith,
               p.2,
-              ap (λ (z : ℕ). key_of c a z (get_or sums p.0 0)) (place-holds (reading_at t history) p.0 (omega (arith, p.1)) ∙ e),
+              ap (λ (z : ℕ). key_of c a z (get_or sums p.0 0)) (place-holds (reading_at t history) t p.0 (omega (arith, p.1)) ∙ e),
               key-silent c a silent (get_or sums p.0 0) refl,
               low a a_in,
               small a a_tick,
             )))
 
-    some-found : phase_from c t a readings sums ≡ chosen c a (heard zs)
+    some-found : phase_from c a readings sums ≡ chosen c a (heard zs)
     unfolding phase_from key
     some-found =
         let f = found in
@@ -185,22 +180,22 @@ module _ (c t : ℕ) (history : List ℕ) (sizes : Sizes c t) (good : Each (λ z
           near_cycle = near;
           found = inr (q, f.1, refl, refl);
         } in
-        rw kept
+        rw (long, kept)
         (phase-heard c a (rank c a q) (tick-heard c a (omega arith) a_tick) ∙ weighed-chosen c a (heard zs) ticks a_in sum (λ p i. refl) weighed)
 
-  pub phase-found : phase_in c t readings sums ≡ live_phase c t history
+  pub phase-found : phase_in c readings sums ≡ live_phase c t history
   unfolding live_phase
   phase-found = go (heard zs) refl
     where
       -- the centre that the code takes is a reading
-      from : is_reading c (centre_heard middle zs) ≡ true → {p : ℕ} → phase_from c t (centre_heard middle zs) readings sums ≡ p
-          → phase_in c t readings sums ≡ p
+      from : is_reading c (centre_heard middle zs) ≡ true → {p : ℕ} → phase_from c (centre_heard middle zs) readings sums ≡ p
+          → phase_in c readings sums ≡ p
       from reads e = rw (centre-is, tick-or-silent c (centre_heard middle zs) (omega arith) reads) e
 
-      go : (l : List ℕ) → heard zs ≡ l → phase_in c t readings sums ≡ phase_of c middle zs
+      go : (l : List ℕ) → heard zs ≡ l → phase_in c readings sums ≡ phase_of c middle zs
       go [] e =
           let d = stand_in_none c middle zs all_read member e in
-          from (silent-reading c _ d) (none_found c t readings sums d ∙ sym (of_none c middle zs all_read member e))
+          from (silent-reading c _ d) (none_found c readings sums d ∙ sym (of_none c middle zs all_read member e))
       go (z ∷ l) e =
           let some : 0 < length (heard zs) = rw e (omega arith) in
           from (tick-reading c _ (a_tick some)) (some-found some ∙ sym (of_chosen c middle zs all_read member some))

@@ -1,11 +1,7 @@
 -- Laws of the last t readings of a history, and of one reading more. Assumes nothing.
-use Prim.Native.Nat.{ℕ, zero, suc, ◌+◌, ◌-◌, ◌≤◌, ◌<◌}
-use mathlib.Core.Path.{◌≡◌, refl, ap, sym, ◌∙◌}
-use mathlib.Core.Bool.{true}
-use mathlib.Core.List.{List, [], ◌∷◌, ◌++◌, append_assoc}
-use native.Mathlib.Omega.{arith}
-use lib.ListN.{length, get_or, replicate, length-append, length-drop, length-replicate, get_or-append, get_or-eq_default}
-use lib.Seq.{get_or_at, get_or-drop, ext_get_or}
+use Rattle.std.proofs.Common.{ℕ, zero, suc, ◌+◌, ◌-◌, ◌≤◌, ◌<◌, ◌≡◌, refl, ap, sym, ◌∙◌, true, List, [], ◌∷◌, ◌++◌, append_assoc, arith, length, get_or, replicate, length-append, length-drop, get_or-drop, ext_get_or}
+use lib.ListN.{length-replicate, get_or-append, get_or-eq_default}
+use lib.Seq.{get_or_at}
 use Rattle.lists.specs.Members.{In, Each}
 use Rattle.lists.specs.Tabulate.{tabulate}
 use Rattle.lists.specs.Total.{total}

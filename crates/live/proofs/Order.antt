@@ -1,6 +1,5 @@
 -- The tests of the live window's calls: rising in number, and none has the number 0. Assumes nothing.
-use Prim.Native.Nat.{ℕ}
-use borrow.Author.Rules.{rules}
+use Rattle.std.proofs.Common.{ℕ, rules}
 use Rattle.refusal.specs.Outcome.{Rising, Numbered}
 use Rattle.live.specs.Calls.{window_rules, push_rules}
 

@@ -1,16 +1,8 @@
 -- Document 02, T-03: a row pushed into a fresh window. "The answer to each reading k (from 0), for k from T - 1 on, equals the image filter's
 -- output at column k - t with M = 1, R = 1": away from the edges the window of a spot is a stretch of the row, which nothing mirrors. Over
 -- the contracts of the calls alone, for either engine. Assumes nothing.
-use Prim.Native.Nat.{ℕ, ◌+◌, ◌-◌, ◌*◌, ◌≤◌, ◌<◌}
-use mathlib.Core.Path.{◌≡◌, ap, sym, ◌∙◌}
-use mathlib.Core.Bool.{true}
-use mathlib.Core.List.{List, [], ◌∷◌, ◌++◌, append-nil}
-use native.Mathlib.Omega.{arith}
-use native.Mathlib.Nat.{zero-mul}
-use native.Mathlib.Numerals.{add-one}
-use borrow.Author.Tests.{lt-ltb, le-ltb}
-use lib.ListN.{length, get_or, take, drop, replicate, length-replicate, take-append-drop}
-use lib.Seq.{get_or-take, get_or-append-add, length-take-le, take-suc}
+use Rattle.std.proofs.Common.{ℕ, ◌+◌, ◌-◌, ◌*◌, ◌≤◌, ◌<◌, ◌≡◌, ap, sym, ◌∙◌, true, List, [], ◌∷◌, ◌++◌, append-nil, arith, zero-mul, add-one, lt-ltb, le-ltb, length, get_or, take, drop, replicate, take-append-drop, get_or-take, get_or-append-add, length-take-le, take-suc, Result, Ok}
+use lib.ListN.{length-replicate}
 use Rattle.lists.specs.Members.{Each}
 use Rattle.lists.specs.Tabulate.{tabulate}
 use Rattle.lists.specs.Joined.{joined}
@@ -19,6 +11,8 @@ use Rattle.lists.proofs.First.{all_good}
 use Rattle.lists.proofs.Keep.{keep_all}
 use Rattle.lists.proofs.Members.{get_or_any, each_get_or, each_split}
 use Rattle.lists.proofs.Tabulate.{tabulate_cong}
+use Rattle.refusal.specs.declared.Refusal.{Refusal}
+use Rattle.refusal.specs.Outcome.{outcome}
 use Rattle.refusal.specs.Outcome.Outcome.{accepted}
 use Rattle.cycle.specs.Silence.{silent, is_reading}
 use Rattle.cycle.proofs.SilenceLaws.{tick-reading}
@@ -29,20 +23,18 @@ use Rattle.window.specs.Window.{padded, block, window, centre}
 use Rattle.window.specs.Phase.{phase}
 use Rattle.window.proofs.Mirror.{mirror_below, mirror-middle}
 use Rattle.filter.specs.declared.Engine.{Engine}
-use Rattle.filter.specs.declared.FilterAnswer.TheVariants.{Filtered}
 use Rattle.filter.specs.Calls.{FilterCall}
 use Rattle.filter.proofs.CallLaws.{call-tested}
 use Rattle.filter.proofs.Demand3.{spot_filtered}
 use Rattle.live.specs.declared.LiveWindow.{LiveWindow}
-use Rattle.live.specs.declared.FreshAnswer.TheVariants as made
-use Rattle.live.specs.declared.LiveAnswer.{LiveAnswer}
+use Rattle.live.specs.declared.Live.{Live}
+use Rattle.live.specs.declared.Live.TheVariants.{Filling}
 use Rattle.live.specs.Window.{latest_of, reading_at, live_phase, result_of, result_after}
-use Rattle.live.specs.Window.LiveResult.{filling}
-use Rattle.live.specs.Calls.{live_told, FreshCall}
+use Rattle.live.specs.Calls.{FreshCall}
 use Rattle.live.specs.Pushes.{Pushes, row_shape}
 use Rattle.live.proofs.Latest.{reading-place, latest-is}
 use Rattle.live.proofs.Sizes.{Sizes, window_clear}
-use Rattle.live.proofs.Pushes.{fresh_live, push_due_accepted, pushes_told}
+use Rattle.live.proofs.Pushes.{fresh_ours, push_due_accepted, pushes_told}
 
 -- the readings of a row up to reading k
 length_front : (row : List ℕ) (k : ℕ) → k < length row → length (take (k + 1) row) ≡ k + 1
@@ -93,39 +85,39 @@ module _ (c t : ℕ) (row : List ℕ) (k : ℕ) (odd : t ≡ 2 * reach t + 1) (f
   row_phase = rw (window_row, centre_row)
 
 -- Readings pushed into a fresh window.
-module _ {c t : ℕ} {old w w₁ : LiveWindow} {row : List ℕ} {answers : List LiveAnswer} (fresh : FreshCall c t old made.Fresh w) (pushes : Pushes w row answers w₁)
+module _ {c t : ℕ} {old w w₁ : LiveWindow} {row : List ℕ} {answers : List (Result Live Refusal)} (fresh : FreshCall c t old (Ok tt) w) (pushes : Pushes w row answers w₁)
     (good : Each (λ x. is_reading c x ≡ true) row) where
   sizes : Sizes c t
-  sizes = window_clear c t (fresh_live fresh).tested
+  sizes = window_clear c t (fresh_ours fresh).tested
 
   -- the answer to reading k is that of the readings up to it
-  told_row : (k : ℕ) (d : LiveAnswer) → k < length row → live_told (get_or answers k d) ≡ accepted (result_after c t (take (k + 1) row))
+  told_row : (k : ℕ) (d : Result Live Refusal) → k < length row → outcome (get_or answers k d) ≡ accepted (result_after c t (take (k + 1) row))
   told_row k d h =
       let front = (each_split (λ x. is_reading c x ≡ true) (take k row) (drop k row) (rw (take-append-drop k row) good)).0 in
       let all : keep (is_reading c) (take k row) ≡ take k row = keep_all (is_reading c) (take k row) front in
       let reads : is_reading c (get_or row k 0) ≡ true = each_get_or (λ x. is_reading c x ≡ true) row k good (tick-reading c 0 sizes.cycle_some) in
       let whole : take k row ++ (get_or row k 0 ∷ []) ≡ take (k + 1) row = rw (add-one k) (sym (take-suc row k 0 h)) in
-      pushes_told (fresh_live fresh) pushes k d h
-      ∙ rw (all, ← whole) (push_due_accepted c t (take k row) (get_or row k 0) (fresh_live fresh).tested reads)
+      pushes_told (fresh_ours fresh) pushes k d h
+      ∙ rw (all, ← whole) (push_due_accepted c t (take k row) (get_or row k 0) (fresh_ours fresh).tested reads)
 
   -- "the first T - 1 accepted readings are each answered «filling», and no others are"
-  pub row_filling : (k : ℕ) (d : LiveAnswer) → k < length row → k + 1 < t → live_told (get_or answers k d) ≡ accepted filling
+  pub row_filling : (k : ℕ) (d : Result Live Refusal) → k < length row → k + 1 < t → outcome (get_or answers k d) ≡ accepted Filling
   unfolding result_after
   row_filling k d h l = told_row k d h ∙ rw (lt-ltb (length (take (k + 1) row)) t (omega (arith, length_front row k h)))
 
-  pub row_told : (k : ℕ) (d : LiveAnswer) → k < length row → t ≤ k + 1 → live_told (get_or answers k d) ≡ accepted (result_of (live_phase c t (take (k + 1) row)))
+  pub row_told : (k : ℕ) (d : Result Live Refusal) → k < length row → t ≤ k + 1 → outcome (get_or answers k d) ≡ accepted (result_of (live_phase c t (take (k + 1) row)))
   unfolding result_after
   row_told k d h l = told_row k d h ∙ rw (le-ltb (length (take (k + 1) row)) t (omega (arith, length_front row k h)))
 
 -- "For a row of N accepted readings, N from T to 8,192, pushed in order into a fresh window, the answer to each reading k (from 0), for k from
 -- T - 1 on, equals the image filter's output at column k - t with M = 1, R = 1."
-pub live_filtered : {e : Engine} {c t : ℕ} {old w w₁ : LiveWindow} {row : List ℕ} {answers : List LiveAnswer} {output work output₁ work₁ : List ℕ}
-    → FreshCall c t old made.Fresh w → Pushes w row answers w₁ → FilterCall e (row_shape c (length row) t) 0 1 row output work Filtered output₁ work₁
-    → (k : ℕ) (d : LiveAnswer) → k < length row → t ≤ k + 1
-    → live_told (get_or answers k d) ≡ accepted (result_of (get_or output₁ (k - reach t) 0))
+pub live_filtered : {e : Engine} {c t : ℕ} {old w w₁ : LiveWindow} {row : List ℕ} {answers : List (Result Live Refusal)} {output work output₁ work₁ : List ℕ}
+    → FreshCall c t old (Ok tt) w → Pushes w row answers w₁ → FilterCall e (row_shape c (length row) t) 0 1 row output work (Ok tt) output₁ work₁
+    → (k : ℕ) (d : Result Live Refusal) → k < length row → t ≤ k + 1
+    → outcome (get_or answers k d) ≡ accepted (result_of (get_or output₁ (k - reach t) 0))
 live_filtered {e} {c} {t} {row = row} {output = output} {work} {output₁} fresh pushes call k d h from =
     let s = row_shape c (length row) t in
-    let sizes = window_clear c t (fresh_live fresh).tested in
+    let sizes = window_clear c t (fresh_ours fresh).tested in
     let tested = call-tested e s 0 1 row (length output) (length work) (sym call.answer) in
     let good : Each (λ x. is_reading c x ≡ true) row = all_good (is_reading c) row tested.good in
     let written : get_or output₁ (0 * length row + (k - reach t)) 0 ≡ phase s row 0 (k - reach t) =

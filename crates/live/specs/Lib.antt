@@ -1,4 +1,3 @@
 pub mod Window
 pub mod Calls
 pub mod Pushes
-pub mod Told

@@ -1,13 +1,14 @@
 -- Readings pushed one after the other, with the answers: any number of calls, each on the window that the one before handed back.
-use Rattle.std.specs.Prelude.{ℕ, List, [], ◌∷◌}
+use Rattle.std.specs.Prelude.{ℕ, List, [], ◌∷◌, Result}
+use Rattle.refusal.specs.declared.Refusal.{Refusal}
 use Rattle.shape.specs.declared.Shape.{Shape}
 use Rattle.live.specs.declared.LiveWindow.{LiveWindow}
-use Rattle.live.specs.declared.LiveAnswer.{LiveAnswer}
+use Rattle.live.specs.declared.Live.{Live}
 use Rattle.live.specs.Calls.{PushCall}
 
-pub data Pushes : LiveWindow → List ℕ → List LiveAnswer → LiveWindow → Type 0 where
+pub data Pushes : LiveWindow → List ℕ → List (Result Live Refusal) → LiveWindow → Type 0 where
   done : {w : LiveWindow} → Pushes w [] [] w
-  next : {w w₁ w₂ : LiveWindow} {x : ℕ} {xs : List ℕ} {r : LiveAnswer} {rs : List LiveAnswer} → PushCall w x r w₁ → Pushes w₁ xs rs w₂
+  next : {w w₁ w₂ : LiveWindow} {x : ℕ} {xs : List ℕ} {r : Result Live Refusal} {rs : List (Result Live Refusal)} → PushCall w x r w₁ → Pushes w₁ xs rs w₂
       → Pushes w (x ∷ xs) (r ∷ rs) w₂
 
 -- A row of n readings as an image, for the filter that the answers are held beside: "with M = 1, R = 1".

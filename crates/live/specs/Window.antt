@@ -1,5 +1,5 @@
 -- Document 02, T-03: what a live window holds after the readings that it has accepted, and the answer to the last of them.
-use Rattle.std.specs.Prelude.{ℕ, min, cond, List, ◌++◌, ltb, length, get_or, drop, replicate}
+use Rattle.std.specs.Prelude.{ℕ, min, if◌then◌else◌, List, ◌++◌, nat_lt, length, slice_index_or, drop, replicate}
 use Rattle.lists.specs.Tabulate.{tabulate}
 use Rattle.refusal.specs.Limits.{live_length}
 use Rattle.cycle.specs.Silence.{silent, is_heard}
@@ -7,6 +7,8 @@ use Rattle.shape.specs.Rules.{reach}
 use Rattle.median.specs.Sum.{shares}
 use Rattle.median.specs.Median.{phase_of}
 use Rattle.live.specs.declared.LiveWindow.{LiveWindow}
+use Rattle.live.specs.declared.Live.{Live}
+use Rattle.live.specs.declared.Live.TheVariants.{Filling, Phase, Silent}
 
 -- "the last T", oldest first: of t silent readings and then the history, so that there are t of them at any time
 unfoldable pub latest_of : ℕ → List ℕ → List ℕ
@@ -14,28 +16,23 @@ latest_of t history = drop (length history) (replicate t silent ++ history)
 
 -- the reading at place k of the window; behind the last one there is silence
 unfoldable pub reading_at : ℕ → List ℕ → ℕ → ℕ
-reading_at t history k = get_or (latest_of t history) k silent
+reading_at t history k = slice_index_or (latest_of t history) k silent
 
 -- "the median of the last T, the middle one being the centre"
 unfoldable pub live_phase : ℕ → ℕ → List ℕ → ℕ
 live_phase c t history = phase_of c (reading_at t history (reach t)) (latest_of t history)
 
--- what an accepted reading is answered
-pub data LiveResult : Type 0 where
-  -- "the first T - 1 accepted readings are each answered «filling», and no others are"
-  filling : LiveResult
-  -- a tick
-  phase-is : ℕ → LiveResult
-  -- none of the last T was heard
-  none-heard : LiveResult
+-- a phase as an answer: a tick, or that none of the last T was heard
+unfoldable pub result_of : ℕ → Live
+result_of phase = (if is_heard phase then Phase phase else Silent)
 
--- a phase as a result
-unfoldable pub result_of : ℕ → LiveResult
-result_of phase = cond (is_heard phase) (phase-is phase) none-heard
+-- the answer with so many readings there and the phase of the last t, whatever they are
+abbrev pub result_by : ℕ → ℕ → ℕ → Live
+result_by t filled phase = (if nat_lt filled t then Filling else result_of phase)
 
--- the answer to the last reading of a history
-unfoldable pub result_after : ℕ → ℕ → List ℕ → LiveResult
-result_after c t history = cond (ltb (length history) t) filling (result_of (live_phase c t history))
+-- the answer to the last reading of a history: "the first T - 1 accepted readings are each answered «filling», and no others are"
+unfoldable pub result_after : ℕ → ℕ → List ℕ → Live
+result_after c t history = result_by t (length history) (live_phase c t history)
 
 -- the sum at the reading at place k, over the last t
 abbrev pub sum_of : ℕ → ℕ → List ℕ → ℕ → ℕ

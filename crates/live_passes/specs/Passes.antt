@@ -1,5 +1,5 @@
 -- What the passes over a live window's arrays leave at each place and find, whatever the arrays hold. Internal to the live window.
-use Rattle.std.specs.Prelude.{ℕ, ◌+◌, ◌-◌, ◌*◌, ◌%◌, ◌^◌, ◌<◌, ◌≤◌, min, cond, List, length, take, nat_lt, slice_index}
+use Rattle.std.specs.Prelude.{◌≡◌, ℕ, ◌+◌, ◌-◌, ◌*◌, ◌%◌, ◌^◌, ◌<◌, ◌≤◌, min, if◌then◌else◌, List, length, nat_lt, slice_index}
 use Rattle.lists.specs.Total.{total_from}
 use Rattle.refusal.specs.Limits.{live_cycle}
 use Rattle.cycle.specs.Distance.{distance}
@@ -25,39 +25,42 @@ slid c x readings sums k = (slice_index sums (k + 1) + distance_to c x readings 
 unfoldable pub distances_to : ℕ → ℕ → List ℕ → ℕ → ℕ
 distances_to c x readings n = total_from (distance_to c x readings) 0 n % 2 ^ 16
 
--- place k of a window of t once x has entered
-abbrev pub entered_reading : ℕ → ℕ → List ℕ → ℕ → ℕ
-entered_reading x t readings k = cond (nat_lt k (t - 1)) (behind readings k) x
+-- the last place of a window
+abbrev pub last_of : List ℕ → ℕ
+last_of readings = length readings - 1
 
-abbrev pub entered_sum : ℕ → ℕ → ℕ → List ℕ → List ℕ → ℕ → ℕ
-entered_sum c x t readings sums k = cond (nat_lt k (t - 1)) (slid c x readings sums k) (distances_to c x readings (t - 1))
+-- place k of a window once x has entered
+abbrev pub entered_reading : ℕ → List ℕ → ℕ → ℕ
+entered_reading x readings k = (if nat_lt k (last_of readings) then behind readings k else x)
 
--- a window of n readings, on a cycle that a live window takes, may be searched for its phase
-pub record Searchable (c n : ℕ) (readings sums : List ℕ) : Type 0 where
+abbrev pub entered_sum : ℕ → ℕ → List ℕ → List ℕ → ℕ → ℕ
+entered_sum c x readings sums k = (if nat_lt k (last_of readings) then slid c x readings sums k else distances_to c x readings (last_of readings))
+
+-- a window on a cycle that a live window takes may be searched for its phase
+pub record Searchable (c : ℕ) (readings sums : List ℕ) : Type 0 where
   pub cycle_some : 0 < c
   pub cycle_fits : c ≤ live_cycle
-  pub some : 0 < n
-  pub readings-room : n ≤ length readings
-  pub sums-room : n ≤ length sums
+  pub some : 0 < length readings
+  pub sums_alike : length sums ≡ length readings
 
--- the middle reading of t, or what stands in for it
-abbrev pub centre_in : ℕ → List ℕ → ℕ
-centre_in t readings = centre_heard (slice_index readings (reach t)) (take t readings)
+-- the middle reading, or what stands in for it
+abbrev pub centre_in : List ℕ → ℕ
+centre_in readings = centre_heard (slice_index readings (reach (length readings))) readings
 
 -- a tick, or silent in place of what is none
 unfoldable pub tick_or_silent : ℕ → ℕ → ℕ
-tick_or_silent c q = cond (nat_lt q c) q silent
+tick_or_silent c q = (if nat_lt q c then q else silent)
 
 -- the key of a reading q with its sum, from the centre a: its sum and then its rank; a silent one has none
 unfoldable pub key_of : ℕ → ℕ → ℕ → ℕ → ℕ
-key_of c a q sum = cond (is_heard q) (sum % 2 ^ 15 * 2 ^ 16 + rank_of c a q) no_sum
+key_of c a q sum = (if is_heard q then sum % 2 ^ 15 * 2 ^ 16 + rank_of c a q else no_sum)
 
 abbrev pub key_at : ℕ → ℕ → List ℕ → List ℕ → ℕ → ℕ
 key_at c a readings sums k = key_of c a (slice_index readings k) (slice_index sums k)
 
 -- the phase by the centre a: the one whose rank is in the least key
-unfoldable pub phase_from : ℕ → ℕ → ℕ → List ℕ → List ℕ → ℕ
-phase_from c t a readings sums = phase_by c a (min (lowest (key_at c a readings sums) t % 2 ^ 16) c)
+unfoldable pub phase_from : ℕ → ℕ → List ℕ → List ℕ → ℕ
+phase_from c a readings sums = phase_by c a (min (lowest (key_at c a readings sums) (length readings) % 2 ^ 16) c)
 
-abbrev pub phase_in : ℕ → ℕ → List ℕ → List ℕ → ℕ
-phase_in c t readings sums = phase_from c t (tick_or_silent c (centre_in t readings)) readings sums
+abbrev pub phase_in : ℕ → List ℕ → List ℕ → ℕ
+phase_in c readings sums = phase_from c (tick_or_silent c (centre_in readings)) readings sums

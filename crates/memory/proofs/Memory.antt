@@ -1,8 +1,29 @@
 -- Laws of changed parts of memory: one store more, a part changed again, parts beside it. Assumes nothing.
-use Rattle.std.proofs.Common.{◌≡◌, ℕ, ◌+◌, ◌<◌, ◌≤◌, List, length, get_or, set, sym, refl, ap, ◌∙◌, zero-add, arith, length-set, get_or-set_other, get_or-set_same}
+use Rattle.std.proofs.Common.{◌≡◌, ℕ, ◌+◌, ◌<◌, ◌≤◌, List, ◌++◌, length, get_or, set, take, drop, replicate, rules, sym, refl, ap, ◌∙◌, zero-add, arith, length-set, get_or-set_other, get_or-set_same}
 use native.Mathlib.Decide.{ℕ_discrete}
-use Rattle.lists.specs.Difference.{adjusted}
-use Rattle.memory.specs.Memory.{Holds, Changed, Outside, ChangedBoth}
+use borrow.Rule.Slice.PartMut.{put_mid}
+use Rattle.std.proofs.lemmas.List.{places}
+use Rattle.memory.specs.Parts.{zeros}
+use Rattle.memory.specs.Memory.{Each, Begun, Holds, Changed, Outside}
+
+-- A pass over all numbers of a list: one more is f of its place.
+module _ {w₀ w : List ℕ} {f : ℕ → ℕ} {n : ℕ} (b : Begun w₀ w n f) where
+  pub begun_more : (v : ℕ) → n < length w₀ → v ≡ f n → Begun w₀ (set w n v) (n + 1) f
+  begun_more v room e = record {
+    len = length-set w n v ∙ b.len;
+    done = λ q h. go q h (ℕ_discrete q n);
+    left = λ q h. get_or-set_other w n q v 0 (omega arith) ∙ b.left q (omega arith);
+  }
+    where
+      go : (q : ℕ) → q < n + 1 → Dec (q ≡ n) → get_or (set w n v) q 0 ≡ f q
+      go q h (yes d) = rw d (get_or-set_same w n v 0 (omega (arith, b.len)) ∙ e)
+      go q h (no d) = get_or-set_other w n q v 0 d ∙ b.done q (omega arith)
+
+  pub begun_all : length w₀ ≡ n → Each w f
+  begun_all e q h = b.done q (omega (arith, b.len))
+
+pub begun_none : {w : List ℕ} {f : ℕ → ℕ} → Begun w w 0 f
+begun_none = record { len = refl; done = λ q h. absurd (omega arith); left = λ q h. refl }
 
 -- a part with one number more
 holds_turn : (w : List ℕ) (base q : ℕ) (f : ℕ → ℕ) (v : ℕ) → Holds w base q f → base + q < length w → v ≡ f q → Holds (set w (base + q) v) base (q + 1) f
@@ -28,49 +49,12 @@ module _ {w₀ : List ℕ} {base : ℕ} {f : ℕ → ℕ} where
   pub changed_done : {w : List ℕ} {q n : ℕ} → Changed w₀ w base q f → q ≡ n → Changed w₀ w base n f
   changed_done c e = rw e at c
 
--- a part of which each number has x added to it and y taken off, one number further on
-pub changed_adjusted : {w₀ w : List ℕ} {base q v : ℕ} (x y : ℕ → ℕ) → Changed w₀ w base q (λ k. adjusted (get_or w₀ (base + k) 0) (x k) (y k))
-    → base + q < length w₀ → v ≡ adjusted (get_or w (base + q) 0) (x q) (y q)
-    → Changed w₀ (set w (base + q) v) base (q + 1) (λ k. adjusted (get_or w₀ (base + k) 0) (x k) (y k))
-changed_adjusted {base = base} {q = q} x y c room e =
-    changed_turn c room (e ∙ ap (λ (d : ℕ). adjusted d (x q) (y q)) (c.after (base + q) (omega arith)))
-
 -- the same for a part that starts at place 0
 pub changed_turn_first : {w₀ w : List ℕ} {f : ℕ → ℕ} {q v : ℕ} → Changed w₀ w 0 q f → q < length w₀ → v ≡ f q → Changed w₀ (set w q v) 0 (q + 1) f
 changed_turn_first {q = q} c room e = let z : 0 + q ≡ q = omega arith in rw z at (changed_turn c (omega arith) e)
 
 pub changed_first : {w₀ w : List ℕ} {n : ℕ} {f : ℕ → ℕ} → Changed w₀ w 0 n f → (q : ℕ) → q < n → get_or w q 0 ≡ f q
 changed_first {w = w} c q h = ap (λ (k : ℕ). get_or w k 0) (sym (zero-add q)) ∙ c.holds q h
-
-module _ {w₀ : List ℕ} {base other : ℕ} {f g : ℕ → ℕ} where
-  pub both_start : ChangedBoth w₀ w₀ base other 0 f g
-  both_start = record {
-    len = refl;
-    before = λ k h. refl;
-    first = λ k h. absurd (omega arith);
-    between = λ k h i. refl;
-    second = λ k h. absurd (omega arith);
-    after = λ k h. refl;
-  }
-
-  -- the second part's number is stored first
-  pub both_turn : {w : List ℕ} {q u v : ℕ} → ChangedBoth w₀ w base other q f g → base + q < other → other + q < length w₀ → u ≡ f q → v ≡ g q
-      → ChangedBoth w₀ (set (set w (other + q) v) (base + q) u) base other (q + 1) f g
-  both_turn {w} {q} {u} {v} c order room d e = record {
-    len = length-set x (base + q) u ∙ length-set w (other + q) v ∙ c.len;
-    before = λ k h. outside k (omega arith) (omega arith) ∙ c.before k h;
-    first = holds_turn x base q f u (λ k h. get_or-set_other w (other + q) (base + k) v 0 (omega arith) ∙ c.first k h)
-        (omega (arith, length-set w (other + q) v, c.len)) d;
-    between = λ k h i. outside k (omega arith) (omega arith) ∙ c.between k (omega arith) i;
-    second = λ k h. get_or-set_other x (base + q) (other + k) u 0 (omega arith) ∙ holds_turn w other q g v c.second (omega (arith, c.len)) e k h;
-    after = λ k h. outside k (omega arith) (omega arith) ∙ c.after k (omega arith);
-  }
-    where
-      x : List ℕ
-      x = set w (other + q) v
-
-      outside : (k : ℕ) → (k ≡ base + q → ⊥) → (k ≡ other + q → ⊥) → get_or (set (set w (other + q) v) (base + q) u) k 0 ≡ get_or w k 0
-      outside k a b = get_or-set_other (set w (other + q) v) (base + q) k u 0 a ∙ get_or-set_other w (other + q) k v 0 b
 
 -- a part that holds f already counts as changed to f
 pub changed_none : (w : List ℕ) (base n : ℕ) (f : ℕ → ℕ) → Holds w base n f → Changed w w base n f
@@ -100,35 +84,12 @@ outside_more c d = record {
 pub changed_is : {w₀ w : List ℕ} {base n : ℕ} {f : ℕ → ℕ} (g : ℕ → ℕ) → Changed w₀ w base n f → ((q : ℕ) → q < n → f q ≡ g q) → Changed w₀ w base n g
 changed_is g c e = record { len = c.len; before = c.before; holds = λ q h. c.holds q h ∙ e q h; after = c.after }
 
-pub both_is : {w₀ w : List ℕ} {base other n : ℕ} {f g : ℕ → ℕ} (f' g' : ℕ → ℕ) → ChangedBoth w₀ w base other n f g
-    → ((q : ℕ) → q < n → f q ≡ f' q) → ((q : ℕ) → q < n → g q ≡ g' q) → ChangedBoth w₀ w base other n f' g'
-both_is f' g' c d e = record {
-  len = c.len;
-  before = c.before;
-  first = λ q h. c.first q h ∙ d q h;
-  between = c.between;
-  second = λ q h. c.second q h ∙ e q h;
-  after = c.after;
-}
-
 -- a part before the changed one, or after it, holds what it held
 pub holds-before : {w₀ w : List ℕ} {base n : ℕ} {f : ℕ → ℕ} → Changed w₀ w base n f → (a m : ℕ) (g : ℕ → ℕ) → a + m ≤ base → Holds w₀ a m g → Holds w a m g
 holds-before c a m g l h q i = c.before (a + q) (omega arith) ∙ h q i
 
 pub holds_after : {w₀ w : List ℕ} {base n : ℕ} {f : ℕ → ℕ} → Changed w₀ w base n f → (a m : ℕ) (g : ℕ → ℕ) → base + n ≤ a → Holds w₀ a m g → Holds w a m g
 holds_after c a m g l h q i = c.after (a + q) (omega arith) ∙ h q i
-
--- the second part changed, and then both
-pub both_after : {w₀ w₁ w₂ : List ℕ} {base other n : ℕ} {f g h : ℕ → ℕ} → Changed w₀ w₁ other n f → ChangedBoth w₁ w₂ base other n g h → base + n ≤ other
-    → ChangedBoth w₀ w₂ base other n g h
-both_after x y order = record {
-  len = y.len ∙ x.len;
-  before = λ k i. y.before k i ∙ x.before k (omega arith);
-  first = y.first;
-  between = λ k i j. y.between k i j ∙ x.before k j;
-  second = y.second;
-  after = λ k i. y.after k i ∙ x.after k i;
-}
 
 -- a part before the one outside of which all is as it was, changed too
 pub outside_lower : {w₀ w w' : List ℕ} {base n next m all : ℕ} {f : ℕ → ℕ} → Outside w₀ w next m → Changed w w' base n f → next ≡ base + n → all ≡ n + m
@@ -147,3 +108,29 @@ outside-within x y e d = record {
   before = λ k h. y.before k (omega arith) ∙ x.before k h;
   after = λ k h. y.after k (omega arith) ∙ x.after k h;
 }
+
+-- A part of w that was lent, and what it is once it has come back.
+module _ {w : List ℕ} {base k n : ℕ} (part : List ℕ) (room : base + n ≤ length w) (e : k ≡ n) (len : length part ≡ length (take k (drop base w))) where
+  pub outside_part : Outside w (put_mid base k w part) base n
+  outside_part = record { len = search (rules, places); before = search (rules, places); after = search (rules, places) }
+
+  pub changed_part : {f : ℕ → ℕ} → Each part f → Changed w (put_mid base k w part) base n f
+  changed_part each = record {
+    len = outside_part.len;
+    before = outside_part.before;
+    holds = search (rules, places);
+    after = outside_part.after;
+  }
+
+-- what a part holds as it is lent
+pub part-reads : (w : List ℕ) (base k q : ℕ) → q < k → get_or (take k (drop base w)) q 0 ≡ get_or w (base + q) 0
+part-reads w base k q h = search (rules, places)
+
+-- what std's `fill` leaves
+pub each_filled : {part : List ℕ} (n : ℕ) → part ≡ replicate n 0 → Each part zeros
+each_filled n e q h = search (rules, places)
+
+-- two parts at the front, one after the other, that have come back
+pub outside_two : {w back : List ℕ} {m n : ℕ} (a b : List ℕ) → back ≡ drop m w → length a ≡ m → length b ≡ n → m + n ≤ length w
+    → Outside w (a ++ (b ++ drop n back)) 0 (m + n)
+outside_two a b e p q room = rw e (record { len = search (rules, places); before = λ k h. absurd (omega arith); after = λ k h. search (rules, places) })

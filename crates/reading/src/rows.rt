@@ -1,236 +1,140 @@
-// The rows of a range, one after the other. Functions here take more than ten parameters: lines are lent one
-// by one.
+// The rows of a range, one after the other.
 ghost use Rattle.std.specs.Prelude.{◌≡◌, ◌+◌, ◌-◌, ◌*◌, ◌≤◌, ◌<◌, length};
 ghost use Rattle.lists.specs.Tabulate.{tabulate};
 ghost use Rattle.refusal.specs.Limits.{longest_cycle};
 ghost use Rattle.shape.specs.Need.{reading_need};
 ghost use Rattle.memory.specs.Memory.{Outside};
 ghost use Rattle.window.specs.Phase.{phase_at};
-ghost use Rattle.lines.specs.Lines.{IsLine, Line, Centres};
-ghost use Rattle.lines.specs.Rows.{Fillable, Filled, Given};
+ghost use Rattle.lines.specs.Lines.{PaddedLine};
+ghost use Rattle.lines.specs.Rows.{Fillable, Filled};
 ghost use Rattle.reading_planes.specs.Sums.{MaskSums};
 ghost use Rattle.reading_choice.specs.Weighed.{RowWeighed};
-ghost use Rattle.reading_turns.specs.Scratch.{Scratch};
-ghost use Rattle.reading.specs.Rows.{Lined, Kept};
+ghost use Rattle.reading.specs.Rows.{Kept};
 
-use lines::{LINE, centres, pad};
-use reading_choice::{phases, reset};
-use reading_turns::{enter, stay};
-use shape::Shape;
+use lines::{Image, LINE, Line};
+use reading_choice::Best;
+use reading_planes::{place_of, planes_length};
+use reading_turns::{Memory, Row, enter, stay};
+use std::ops::Range;
 
-// The first `kept` mask rows of row i, carried from the row before it.
-fn carry_rows(
-    shape: Shape,
-    image: &[u16],
-    work: &mut [u32],
-    i: usize,
-    kept: usize,
-    own: &mut [u16],
-    entering: &[u16],
-    leaving: &mut [u16],
-    centres: &[u16],
-    change: &mut [u32],
-    step: &mut [u16],
-    least: &mut [u32],
-    nearest: &mut [u32],
-)
-    requires given { Given longest_cycle reading_need shape image.now (length work.old) × (i < shape.rows) × Kept shape image.now i kept work.old }
-    requires line { IsLine own.old × Line shape image.now (i + shape.mask_rows - 1) entering.now × IsLine leaving.old }
-    requires centres { Centres shape image.now i centres.now × Scratch change.old step.old least.old nearest.old }
-    requires row_weighed { RowWeighed shape image.now i 0 0 least.old nearest.old }
-    ensures mask_sums { MaskSums shape image.now i work.new i (i + kept) × Outside work.old work.new 0 (reading_need shape) }
-    ensures row_weighed_2 { RowWeighed shape image.now i kept 0 least.new nearest.new }
+// The first `kept` mask rows of a row, carried from the row before it.
+fn carry_rows(row: &Row, kept: usize, work: &mut [u32], memory: &mut Memory)
+    requires kept { Kept row.now.image.shape row.now.image.readings.now row.now.i kept work.old }
+    requires room { reading_need row.now.image.shape ≤ length work.old }
+    requires entering { PaddedLine row.now.image.shape row.now.image.readings.now (row.now.i + row.now.image.shape.mask_rows - 1) memory.old.last }
+    requires weighed { RowWeighed row.now.image.shape row.now.image.readings.now row.now.i 0 0 memory.old.best.least memory.old.best.nearest }
+    ensures sums { MaskSums row.now.image.shape row.now.image.readings.now row.now.i work.new row.now.i (row.now.i + kept) }
+    ensures outside { Outside work.old work.new 0 (reading_need row.now.image.shape) }
+    ensures weighed_kept { RowWeighed row.now.image.shape row.now.image.readings.now row.now.i kept 0 memory.new.best.least memory.new.best.nearest }
+    ensures entering_stays { PaddedLine row.now.image.shape row.now.image.readings.now (row.now.i + row.now.image.shape.mask_rows - 1) memory.new.last }
 {
     if kept == 0 {
         return;
     }
-    pad(shape, image, i - 1, leaving);
-    let mut k = 0;
-    while k < kept {
-        stay(
-            shape, image, work, i, k, own, entering, leaving, centres, change, step, least, nearest,
-        );
-        k += 1;
+    let n = planes_length(row.image.shape);
+    row.image.pad(row.i - 1, &mut memory.row);
+    for k in 0..kept {
+        let start = place_of(row.image.shape, row.i + k);
+        stay(row, k, &mut work[start..start + n], memory);
     }
 }
 
-// The mask rows of row i from `kept` on, set up afresh.
-fn build_rows(
-    shape: Shape,
-    image: &[u16],
-    work: &mut [u32],
-    i: usize,
-    kept: usize,
-    own: &mut [u16],
-    last: &[u16],
-    row: &mut [u16],
-    other: &mut [u16],
-    centres: &[u16],
-    change: &mut [u32],
-    step: &mut [u16],
-    least: &mut [u32],
-    nearest: &mut [u32],
-)
-    requires given { Given longest_cycle reading_need shape image.now (length work.old) × (i < shape.rows) × (kept ≤ shape.mask_rows) }
-    requires line { IsLine own.old × Line shape image.now (i + shape.mask_rows - 1) last.now × IsLine row.old × IsLine other.old }
-    requires centres { Centres shape image.now i centres.now × Scratch change.old step.old least.old nearest.old }
-    requires mask_sums { MaskSums shape image.now i work.old i (i + kept) × RowWeighed shape image.now i kept 0 least.old nearest.old }
-    ensures mask_sums_2 { MaskSums shape image.now i work.new i (i + shape.mask_rows)
-        × Outside work.old work.new 0 (reading_need shape) }
-    ensures row_weighed { RowWeighed shape image.now i shape.mask_rows 0 least.new nearest.new }
+// The mask rows of a row from `kept` on, set up afresh.
+fn build_rows(row: &Row, kept: usize, work: &mut [u32], memory: &mut Memory)
+    requires kept { kept ≤ row.now.image.shape.mask_rows }
+    requires room { reading_need row.now.image.shape ≤ length work.old }
+    requires last_row { PaddedLine row.now.image.shape row.now.image.readings.now (row.now.i + row.now.image.shape.mask_rows - 1) memory.old.last }
+    requires sums_kept { MaskSums row.now.image.shape row.now.image.readings.now row.now.i work.old row.now.i (row.now.i + kept) }
+    requires weighed_kept { RowWeighed row.now.image.shape row.now.image.readings.now row.now.i kept 0 memory.old.best.least memory.old.best.nearest }
+    ensures sums { MaskSums row.now.image.shape row.now.image.readings.now row.now.i work.new row.now.i (row.now.i + row.now.image.shape.mask_rows) }
+    ensures outside { Outside work.old work.new 0 (reading_need row.now.image.shape) }
+    ensures weighed { RowWeighed row.now.image.shape row.now.image.readings.now row.now.i row.now.image.shape.mask_rows 0
+        memory.new.best.least memory.new.best.nearest }
 {
-    let rows = shape.mask_rows as usize;
-    let mut k = kept;
-    while k < rows {
-        enter(
-            shape, image, work, i, k, own, last, row, other, centres, change, step, least, nearest,
-        );
-        k += 1;
+    let n = planes_length(row.image.shape);
+    for k in kept..row.image.shape.mask_rows as usize {
+        let start = place_of(row.image.shape, row.i + k);
+        enter(row, k, &mut work[start..start + n], memory);
     }
 }
 
 // Row i, whose first `kept` mask rows have their sums from the row before it.
 fn one_row(
-    shape: Shape,
-    image: &[u16],
-    work: &mut [u32],
+    image: &Image,
     i: usize,
     kept: usize,
-    own: &mut [u16],
-    last: &mut [u16],
-    row: &mut [u16],
-    other: &mut [u16],
-    centre: &mut [u16],
-    change: &mut [u32],
-    step: &mut [u16],
-    least: &mut [u32],
-    nearest: &mut [u32],
+    work: &mut [u32],
+    centres: &mut Line,
+    memory: &mut Memory,
     out: &mut [u16],
 )
-    requires given { Given longest_cycle reading_need shape image.now (length work.old) × (i < shape.rows) × Kept shape image.now i kept work.old × (length out.old ≡ shape.columns) }
-    requires lined { Lined own.old last.old row.old other.old centre.old × Scratch change.old step.old least.old nearest.old }
-    ensures out_after { out.new ≡ tabulate (phase_at shape image.now) (i * shape.columns) shape.columns }
-    ensures mask_sums { MaskSums shape image.now i work.new i (i + shape.mask_rows)
-        × Outside work.old work.new 0 (reading_need shape) }
+    requires inside { i < image.now.shape.rows }
+    requires kept { Kept image.now.shape image.now.readings.now i kept work.old }
+    requires room { reading_need image.now.shape ≤ length work.old }
+    requires width { length out.old ≡ image.now.shape.columns }
+    ensures phases { out.new ≡ tabulate (phase_at image.now.shape image.now.readings.now) (i * image.now.shape.columns) image.now.shape.columns }
+    ensures sums { MaskSums image.now.shape image.now.readings.now i work.new i (i + image.now.shape.mask_rows) }
+    ensures outside { Outside work.old work.new 0 (reading_need image.now.shape) }
 {
-    let columns = shape.columns as usize;
-    centres(shape, image, i, centre, own);
-    reset(least, nearest, columns);
-    pad(shape, image, i + (shape.mask_rows as usize) - 1, last);
-    carry_rows(
-        shape, image, work, i, kept, own, last, row, centre, change, step, least, nearest,
-    );
-    build_rows(
-        shape, image, work, i, kept, own, last, row, other, centre, change, step, least, nearest,
-    );
-    phases(shape.cycle, centre, nearest, out, columns);
+    let shape = image.shape;
+    image.centres(i, centres, &mut memory.own);
+    image.pad(i + shape.mask_rows as usize - 1, &mut memory.last);
+    memory.best.reset(shape.columns as usize);
+    let row = Row {
+        image: *image,
+        i,
+        centres: &*centres,
+    };
+    carry_rows(&row, kept, work, memory);
+    build_rows(&row, kept, work, memory);
+    memory.best.phases(shape.cycle, &centres[..], out);
 }
 
-// The rows from first up to end of the output, each lent in its turn, with the lines that they need.
+// The rows of a range of the output, each lent in its turn.
 fn each_row(
-    shape: Shape,
-    first: usize,
-    end: usize,
-    image: &[u16],
+    image: &Image,
+    rows: Range<usize>,
     output: &mut [u16],
     work: &mut [u32],
-    own: &mut [u16],
-    entering: &mut [u16],
-    leaving: &mut [u16],
-    other: &mut [u16],
-    centre: &mut [u16],
-    change: &mut [u32],
-    step: &mut [u16],
-    least: &mut [u32],
-    nearest: &mut [u32],
+    centres: &mut Line,
+    memory: &mut Memory,
 )
-    requires fillable { Fillable longest_cycle reading_need shape image.now first end (length output.old) (length work.old) }
-    requires lined { Lined own.old entering.old leaving.old other.old centre.old × Scratch change.old step.old least.old nearest.old }
-    ensures { Filled reading_need shape image.now first end output.old output.new work.old work.new }
+    requires { Fillable longest_cycle reading_need image.now.shape image.now.readings.now rows.start rows.end (length output.old) (length work.old) }
+    ensures { Filled reading_need image.now.shape image.now.readings.now rows.start rows.end output.old output.new work.old work.new }
 {
-    let columns = shape.columns as usize;
-    let mut next = first;
-    let mut kept = 0;
-    while next < end {
-        let a = next * columns;
-        let b = a + columns;
-        one_row(
-            shape,
-            image,
-            work,
-            next,
-            kept,
-            own,
-            entering,
-            leaving,
-            other,
-            centre,
-            change,
-            step,
-            least,
-            nearest,
-            &mut output[a..b],
-        );
-        kept = shape.mask_rows as usize - 1;
-        next += 1;
+    let columns = image.shape.columns as usize;
+    let first = rows.start;
+    for i in first..rows.end {
+        let kept = if i == first {
+            0
+        } else {
+            image.shape.mask_rows as usize - 1
+        };
+        let start = i * columns;
+        let out = &mut output[start..start + columns];
+        one_row(image, i, kept, work, centres, memory, out);
     }
 }
 
-// The rows from first up to end of the output; the work memory past the need stays.
-fn with_lines(
-    shape: Shape,
-    first: usize,
-    end: usize,
-    image: &[u16],
-    output: &mut [u16],
-    work: &mut [u32],
-)
-    requires { Fillable longest_cycle reading_need shape image.now first end (length output.old) (length work.old) }
-    ensures { Filled reading_need shape image.now first end output.old output.new work.old work.new }
+// The rows of a range of the output; the work memory past the need stays. Not inlined, so that the lines stay
+// out of its callers' frames, where a call that is refused would pay for them.
+#[inline(never)]
+pub fn fill(image: &Image, rows: Range<usize>, output: &mut [u16], work: &mut [u32])
+    requires { Fillable longest_cycle reading_need image.now.shape image.now.readings.now rows.start rows.end (length output.old) (length work.old) }
+    ensures { Filled reading_need image.now.shape image.now.readings.now rows.start rows.end output.old output.new work.old work.new }
 {
-    let mut own = [0u16; LINE];
-    let mut entering = [0u16; LINE];
-    let mut leaving = [0u16; LINE];
-    let mut other = [0u16; LINE];
-    let mut centre = [0u16; LINE];
-    let mut change = [0u32; LINE];
-    let mut step = [0u16; LINE];
-    let mut least = [0u32; LINE];
-    let mut nearest = [0u32; LINE];
-    each_row(
-        shape,
-        first,
-        end,
-        image,
-        output,
-        work,
-        &mut own,
-        &mut entering,
-        &mut leaving,
-        &mut other,
-        &mut centre,
-        &mut change,
-        &mut step,
-        &mut least,
-        &mut nearest,
-    );
-}
-
-// The same. A function that calls itself is not inlined, so that the lines stay out of its callers' frames,
-// where a call that is refused would pay for them. The call is never made: first is at most end.
-pub fn fill(
-    shape: Shape,
-    first: usize,
-    end: usize,
-    image: &[u16],
-    output: &mut [u16],
-    work: &mut [u32],
-)
-    requires { Fillable longest_cycle reading_need shape image.now first end (length output.old) (length work.old) }
-    ensures { Filled reading_need shape image.now first end output.old output.new work.old work.new }
-{
-    with_lines(shape, first, end, image, output, work);
-    if end < first {
-        fill(shape, first, end, image, output, work);
-    }
+    let mut centres = [0; LINE];
+    let mut memory = Memory {
+        own: [0; LINE],
+        last: [0; LINE],
+        row: [0; LINE],
+        other: [0; LINE],
+        gains: [0; LINE],
+        changes: [0; LINE],
+        best: Best {
+            least: [0; LINE],
+            nearest: [0; LINE],
+        },
+    };
+    each_row(image, rows, output, work, &mut centres, &mut memory);
 }

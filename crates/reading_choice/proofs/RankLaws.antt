@@ -1,8 +1,8 @@
 -- Laws of the rank, by how many ticks ahead of the centre a tick lies: the code's rank is the rank, no rank is above the cycle, and
 -- each tells its tick. Assumes nothing.
-use Rattle.std.proofs.Common.{◌≡◌, ℕ, ◌+◌, ◌-◌, ◌*◌, ◌/◌, ◌%◌, ◌^◌, ◌<◌, ◌≤◌, min, Bool, true, false, cond, eqb, leb, sym, ap, ◌∙◌, mod-lt, mod-eq_of_lt, arith, eq-eqb, ne_eqb, le-leb}
-use native.Mathlib.Decide.{dec_le, dec_lt, ℕ_discrete}
-use native.Mathlib.Nat.{add-mod_right}
+use Rattle.std.proofs.Common.{◌≡◌, ℕ, ◌+◌, ◌-◌, ◌*◌, ◌/◌, ◌%◌, ◌^◌, ◌<◌, ◌≤◌, min, Bool, true, false, cond, not, eqb, leb, sym, ap, ◌∙◌, mod-lt, mod-eq_of_lt, arith, eq-eqb, ne_eqb, le-leb}
+use mir.Val.{bool_byte}
+use native.Mathlib.Decide.{dec_le, ℕ_discrete}
 use borrow.Author.Tests.{lt-leb}
 use Rattle.refusal.specs.Limits.{longest_cycle}
 use Rattle.cycle.specs.Distance.{distance}
@@ -85,26 +85,21 @@ module _ (c a q : ℕ) (h : a < c) (g : q < c) where
           let half : c - rank c a q / 2 ≡ ahead c a q = omega (arith, there.less) in
           rw (ne_eqb (rank c a q % 2) 0 (omega arith), half) (way_mod g there.way)
 
--- the way as the code comes by it: d is q - a, and t the cycle to add
-pub way_by_code : (c a q : ℕ) {d t r : ℕ} → d < 2 ^ 16 → a < 2 ^ 16 → (d + a) % 2 ^ 16 ≡ q → t ≡ cond (leb a q) 0 c → r ≡ (d + t) % 2 ^ 16
-    → r ≡ way_to c a q
+-- the way as the code comes by it: t is the cycle to add
+pub way_by_code : (c a q t : ℕ) → a < 2 ^ 16 → t ≡ cond (leb a q) 0 c → ((q + (2 ^ 16 - a)) % 2 ^ 16 + t) % 2 ^ 16 ≡ way_to c a q
 unfolding way_to
-way_by_code c a q {d} {t} {r} u v m e f = f ∙ go (dec_lt (d + a) (2 ^ 16))
-  where
-    go : Dec (d + a < 2 ^ 16) → (d + t) % 2 ^ 16 ≡ way_to c a q
-    go (yes l) = sym (add-mod_right (d + t) (2 ^ 16)) ∙ ap (λ (x : ℕ). x % 2 ^ 16) (omega (arith, e))
-    go (no l) = ap (λ (x : ℕ). x % 2 ^ 16) (omega (arith, e))
+way_by_code c a q t h e = rw (← e) (omega arith)
 
 -- and the rank: e ticks ahead and r behind, d the lesser, and m for one more
-pub one_more : (b : Bool) → cond b 0 1 ≤ 1
-one_more true = omega arith
-one_more false = omega arith
-
-pub rank_by_code : (c : ℕ) {w e r d m : ℕ} → e ≡ w → r ≡ c - e → d ≡ min e r → m ≡ cond (eqb d e) 0 1 → d + d + m ≡ rank_by c w
+pub rank_by_code : (c e : ℕ) {r d m : ℕ} → r ≡ c - e → d ≡ min e r → m ≡ bool_byte (not (eqb d e)) → d + d + m ≡ rank_by c e
 unfolding rank_by
-rank_by_code c {w} {e} {r} {d} {m} u v x y =
+rank_by_code c e {r} {d} {m} u x y =
     let f : d ≡ min e (c - e) = omega arith in
-    rw (← u, ← f) (omega (arith, y))
+    rw (← f) (go (eqb d e) y)
+  where
+    go : (b : Bool) → m ≡ bool_byte (not b) → d + d + m ≡ 2 * d + cond b 0 1
+    go true y = omega (arith, y)
+    go false y = omega (arith, y)
 
 -- how many ticks ahead of its centre the tick with rank r lies, and the tick by it
 pub way_fits : (c r : ℕ) → r ≤ c → cond (eqb (r % 2) 0) (r / 2) (c - r / 2) ≤ c

@@ -1,6 +1,6 @@
 -- The choice in all windows of a row at once: nothing weighed, a reading of each window more, a mask row done, and the phases of the
 -- row from the ranks that are kept in the end. Each law is that of one window, taken at every column. Assumes nothing.
-use Rattle.std.proofs.Common.{◌≡◌, ℕ, ◌+◌, ◌*◌, ◌<◌, ◌≤◌, true, List, [], ◌∷◌, ◌++◌, length, get_or, sym, ap, ◌∙◌, append-nil, zero-add, arith, ext_get_or}
+use Rattle.std.proofs.Common.{◌≡◌, ℕ, ◌+◌, ◌*◌, ◌<◌, ◌≤◌, true, List, [], ◌∷◌, ◌++◌, length, get_or, sym, ap, ◌∙◌, append-nil, arith, ext_get_or}
 use Rattle.lists.specs.Members.{In}
 use Rattle.lists.specs.Tabulate.{tabulate}
 use Rattle.lists.proofs.Members.{each_in, each_append, in_some}
@@ -14,8 +14,8 @@ use Rattle.shape.proofs.Accepted.{Accepted, shape_clear}
 use Rattle.median.specs.Sum.{sum_at, shares, Ticks}
 use Rattle.median.specs.Choice.{rank}
 use Rattle.median.proofs.Sum.{shares_sum, shares-silent}
-use Rattle.memory.specs.Memory.{Changed, Signed, no_sum}
-use Rattle.memory.specs.Parts.{copied}
+use Rattle.memory.specs.Memory.{Each, Changed, Signed, no_sum}
+use Rattle.memory.specs.Parts.{held}
 use Rattle.memory.proofs.Memory.{changed_first}
 use Rattle.window.specs.Window.{padded, block, part, window}
 use Rattle.window.specs.Phase.{centre_at, phase, phase_at}
@@ -24,7 +24,7 @@ use Rattle.window.proofs.Sums.{each_block, in_block}
 use Rattle.window.proofs.Part.{part_empty, part-next, part_row, part-whole}
 use Rattle.window.proofs.Window.{padded-reading, heard_below, centre_at_in, centre_at_case, centre_at_reading, shares-small}
 use Rattle.window.proofs.Phase.{phase-at, phase-chosen, phase-none}
-use Rattle.lines.specs.Lines.{Line, Centres}
+use Rattle.lines.specs.Lines.{PaddedLine, Centres}
 use Rattle.reading_lines.proofs.Marks.{mark-none, mark-silent}
 use Rattle.reading_planes.specs.Sums.{reading_sum}
 use Rattle.reading_planes.proofs.Sums.{sum-signed}
@@ -69,18 +69,18 @@ module _ {s : Shape} {image : List ℕ} {i : ℕ} (ready : Ready longest_cycle s
 
   -- the pairs that are kept are signed numbers
   pub row_signed : {k l : ℕ} {best near : List ℕ} → k < s.mask_rows → l ≤ s.mask_columns → RowWeighed s image i k l best near
-      → Signed (copied best 0) s.columns × Signed (copied near 0) s.columns
+      → Signed (held best) s.columns × Signed (held near) s.columns
   row_signed {k} {l} hk hl w = (
-    λ j h. rw (zero-add j) (weighed-signed (w.weighed j h) (λ q m. omega (arith, part_small j k l h hk hl q m))),
-    λ j h. rw (zero-add j) (omega (arith, (w.weighed j h).near_cycle, sizes.cycle_fits)),
+    λ j h. (weighed-signed (w.weighed j h) (λ q m. omega (arith, part_small j k l h hk hl q m))),
+    λ j h. (omega (arith, (w.weighed j h).near_cycle, sizes.cycle_fits)),
   )
 
   module _ {k l : ℕ} (hk : k < s.mask_rows) (hl : l < s.mask_columns) where
     -- the sums of a plane are signed numbers
-    pub plane_signed : (work : List ℕ) (plane : ℕ) {own : List ℕ} → Line s image (i + k) own
-        → ((j : ℕ) → j < s.columns → get_or work (plane + j) 0 ≡ reading_sum s image i (i + k) l j) → Signed (copied work plane) s.columns
-    plane_signed work plane x sums j h =
-        omega (arith, sums j h, sum-signed ready x l j hl h hi)
+    pub plane_signed : (sums : List ℕ) {own : List ℕ} → PaddedLine s image (i + k) own
+        → ((j : ℕ) → j < s.columns → get_or sums j 0 ≡ reading_sum s image i (i + k) l j) → Signed (held sums) s.columns
+    plane_signed sums x is j h =
+        omega (arith, is j h, sum-signed ready x l j hl h hi)
 
     module _ (j : ℕ) (h : j < s.columns) where
       abbrev q : ℕ
@@ -109,12 +109,14 @@ module _ {s : Shape} {image : List ℕ} {i : ℕ} (ready : Ready longest_cycle s
           ∙ sym (keep_append is_heard (part 0 s image i j k l) (q ∷ [])) ∙ ap heard (part-next 0 s image i j k l)
 
     -- one reading more of every window
-    pub row_more : (work : List ℕ) (plane : ℕ) {own centres best best' near near' : List ℕ} → Line s image (i + k) own → Centres s image i centres
-        → ((j : ℕ) → j < s.columns → get_or work (plane + j) 0 ≡ reading_sum s image i (i + k) l j)
-        → Changed best best' 0 s.columns (kept_sum work plane (ranked s.cycle centres own l) best near)
-        → Changed near near' 0 s.columns (kept_rank work plane (ranked s.cycle centres own l) best near)
+    pub row_more : (sums readings centres : List ℕ) {own best best' near near' : List ℕ} → PaddedLine s image (i + k) own
+        → ((j : ℕ) → j < s.columns → get_or centres j 0 ≡ centre_at s image i j)
+        → ((j : ℕ) → j < s.columns → get_or sums j 0 ≡ reading_sum s image i (i + k) l j)
+        → ((j : ℕ) → j < s.columns → get_or readings j 0 ≡ get_or own (l + j) 0)
+        → Changed best best' 0 s.columns (kept_sum sums (ranked s.cycle centres readings) best near)
+        → Changed near near' 0 s.columns (kept_rank sums (ranked s.cycle centres readings) best near)
         → RowWeighed s image i k l best near → RowWeighed s image i k (l + 1) best' near'
-    row_more work plane {own} {centres} x y sums b n w = record {
+    row_more sums readings centres {own} x y is same b n w = record {
       weighed = λ j h.
           let z = q j h in
           let all = window 0 s image i j in
@@ -123,13 +125,13 @@ module _ {s : Shape} {image : List ℕ} {i : ℕ} (ready : Ready longest_cycle s
           (λ e.
           let in-cycle : z < s.cycle = heard-tick s.cycle z (reading (i + k) (l + j)) e in
           let middle = centre-tick j h e in
-          let near : ranked s.cycle centres own l j ≡ rank s.cycle (centre_at s image i j) z =
-          rw (y.holds j h, x.holds (l + j) (omega (arith, sizes.mask_columns_odd)))
+          let near : ranked s.cycle centres readings j ≡ rank s.cycle (centre_at s image i j) z =
+          rw (y j h, same j h, x.holds (l + j) (omega (arith, sizes.mask_columns_odd)))
           (rank_is s.cycle (centre_at s image i j) z middle in-cycle sizes.cycle_fits) in
-          let sum : get_or work (plane + j) 0 ≡ shares s.cycle z all = omega (arith, sums j h, mark-none z e) in
+          let sum : get_or sums j 0 ≡ shares s.cycle z all = omega (arith, is j h, mark-none z e) in
           rw (← (more_heard j h e)) (weigh_more (w.weighed j h) middle z in-cycle sum near (rw sum (shares-small ready (omega arith) i j hi h z in-cycle))))
           (λ e.
-          let sum : get_or work (plane + j) 0 ≡ no_sum = omega (arith, sums j h, mark-silent z e, shares-silent s.cycle z all e) in
+          let sum : get_or sums j 0 ≡ no_sum = omega (arith, is j h, mark-silent z e, shares-silent s.cycle z all e) in
           rw (← (more_silent j h e)) (weigh_none (w.weighed j h) (part_small j k l h hk (omega arith)) _ _ sum)));
     }
 
@@ -157,12 +159,12 @@ module _ {s : Shape} {image : List ℕ} {i : ℕ} (ready : Ready longest_cycle s
         (λ none e. rw (unheard _ e) (sym (phase-none ready (omega arith) i j hi h none))))
 
     -- so the phases by the ranks are those of the row
-    pub row_settled : {best near out₀ out : List ℕ} → length out₀ ≡ s.columns → RowWeighed s image i s.mask_rows 0 best near
-        → Changed out₀ out 0 s.columns (phases_by s.cycle centres near)
+    pub row_settled : {best near out : List ℕ} → length out ≡ s.columns → RowWeighed s image i s.mask_rows 0 best near
+        → Each out (phases_by s.cycle centres near)
         → out ≡ tabulate (phase_at s image) (i * s.columns) s.columns
-    row_settled {out = out} e w x =
-        ext_get_or 0 out _ (x.len ∙ e ∙ sym (length-tabulate (phase_at s image) (i * s.columns) s.columns))
+    row_settled {out = out} len w x =
+        ext_get_or 0 out _ (len ∙ sym (length-tabulate (phase_at s image) (i * s.columns) s.columns))
         (λ j g.
-        let h : j < s.columns = omega (arith, x.len) in
-        changed_first x j h ∙ settled w j h ∙ sym (phase-at s image i j h)
+        let h : j < s.columns = omega (arith, len) in
+        x j g ∙ settled w j h ∙ sym (phase-at s image i j h)
         ∙ sym (get_or-tabulate (phase_at s image) 0 (i * s.columns) s.columns j h))

@@ -1,4 +1,3 @@
-pub mod Moves
 pub mod StepLaws
 pub mod Marks
 pub mod Listed

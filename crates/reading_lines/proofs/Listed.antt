@@ -10,23 +10,23 @@ use Rattle.memory.proofs.Memory.{changed_is}
 use Rattle.reading_lines.specs.Passes.{between, between_two, stepped}
 use Rattle.reading_lines.specs.Listed.{ListedReadings, entry_between}
 
-pub between-listed : (own row : List ℕ) (l at n : ℕ) → ListedReadings own l n → ListedReadings row at n
-    → (j : ℕ) → j < n → between listed_cycle own l row at j ≡ entry_between own l row at j
-between-listed own row l at n x y j h = sym (share_short listed_cycle _ _ refl (x j h) (y j h)) ∙ distance-listed _ _
+pub between-listed : (own row : List ℕ) (n : ℕ) → ListedReadings own n → ListedReadings row n
+    → (j : ℕ) → j < n → between listed_cycle own row j ≡ entry_between own row j
+between-listed own row n x y j h = sym (share_short listed_cycle _ _ refl (x j h) (y j h)) ∙ distance-listed _ _
 
-module _ (own row : List ℕ) (l at n : ℕ) {out₀ out : List ℕ} (x : ListedReadings own l n) (y : ListedReadings row at n) where
+module _ (own row : List ℕ) (n : ℕ) {out₀ out : List ℕ} (x : ListedReadings own n) (y : ListedReadings row n) where
   -- what `distances` leaves
-  pub distances_listed : Changed out₀ out 0 n (between listed_cycle own l row at) → Changed out₀ out 0 n (entry_between own l row at)
-  distances_listed d = changed_is _ d (between-listed own row l at n x y)
+  pub distances_listed : Changed out₀ out 0 n (between listed_cycle own row) → Changed out₀ out 0 n (entry_between own row)
+  distances_listed d = changed_is _ d (between-listed own row n x y)
 
   -- what `distances_to_two` leaves
-  pub distances_to_two_listed : (other : List ℕ) → ListedReadings other at n → Changed out₀ out 0 n (between_two listed_cycle own l row other at)
-      → Changed out₀ out 0 n (λ j. entry_between own l row at j + entry_between own l other at j)
+  pub distances_to_two_listed : (other : List ℕ) → ListedReadings other n → Changed out₀ out 0 n (between_two listed_cycle own row other)
+      → Changed out₀ out 0 n (λ j. entry_between own row j + entry_between own other j)
   distances_to_two_listed other z d =
-      changed_is _ d (λ j h. rw (between-listed own row l at n x y j h, between-listed own other l at n x z j h))
+      changed_is _ d (λ j h. rw (between-listed own row n x y j h, between-listed own other n x z j h))
 
   -- what `steps` leaves
-  pub steps-listed : (leaving : List ℕ) → ListedReadings leaving at n → Changed out₀ out 0 n (stepped listed_cycle own l row leaving at)
-      → Changed out₀ out 0 n (λ j. listed_cycle / 2 + entry_between own l row at j - entry_between own l leaving at j)
+  pub steps-listed : (leaving : List ℕ) → ListedReadings leaving n → Changed out₀ out 0 n (stepped listed_cycle own row leaving)
+      → Changed out₀ out 0 n (λ j. listed_cycle / 2 + entry_between own row j - entry_between own leaving j)
   steps-listed leaving z d =
-      changed_is _ d (λ j h. rw (between-listed own row l at n x y j h, between-listed own leaving l at n x z j h))
+      changed_is _ d (λ j h. rw (between-listed own row n x y j h, between-listed own leaving n x z j h))

@@ -1,10 +1,10 @@
 -- What a change moved by a step is: what enters added, what leaves taken off. Assumes nothing.
-use Rattle.std.proofs.Common.{◌≡◌, ℕ, ◌+◌, ◌-◌, ◌/◌, ◌<◌, ◌≤◌, List, get_or, ap, ◌∙◌, arith}
+use Rattle.std.proofs.Common.{◌≡◌, ℕ, ◌+◌, ◌-◌, ◌/◌, ◌%◌, ◌^◌, ◌<◌, ◌≤◌, List, get_or, refl, ap, ◌∙◌, arith}
 use Rattle.lists.specs.Difference.{adjusted}
+use Rattle.lists.proofs.Difference.{adjusted-added}
 use Rattle.median.specs.Sum.{share}
 use Rattle.median.proofs.Sum.{share_half}
-use Rattle.memory.specs.Memory.{Changed}
-use Rattle.memory.proofs.Memory.{changed_first}
+use Rattle.memory.specs.Parts.{added, summed}
 use Rattle.reading_lines.specs.Passes.{of_line, stepped, moved}
 
 -- what the code finds a reading to add is at most half a cycle
@@ -16,14 +16,22 @@ pub moved-step : (d half a b : ℕ) → b ≤ half → adjusted d (half + a - b)
 unfolding adjusted
 moved-step d half a b h = omega arith
 
--- the same of a line: after `steps` of n readings from place l on, whatever part of them moves a change
-pub stepped-moved : (c : ℕ) (own entering leaving : List ℕ) (l at : ℕ) {step₀ step : List ℕ} {n : ℕ} → Changed step₀ step 0 n (stepped c own l entering leaving at)
-    → (change : List ℕ) (p start j : ℕ) → start + j < n
-    → moved change p step start (c / 2) j
-    ≡ adjusted (get_or change (p + j) 0) (of_line c own entering (l + start + j) (at + start + j)) (of_line c own leaving (l + start + j) (at + start + j))
-stepped-moved c own entering leaving l at s change p start j h =
-    let d = get_or change (p + j) 0 in
-    let e : l + (start + j) ≡ l + start + j = omega arith in
-    let g : at + (start + j) ≡ at + start + j = omega arith in
-    ap (λ (x : ℕ). adjusted d x (c / 2)) (rw e at (rw g at (changed_first s (start + j) h)))
-    ∙ moved-step d (c / 2) _ _ (share_half c _ _)
+-- the same of two lines: a change moved by the step of a reading
+pub stepped-moved : (c : ℕ) (own entering leaving changes steps : List ℕ) (j : ℕ)
+    → get_or steps j 0 ≡ stepped c own entering leaving j
+    → moved changes steps (c / 2) j ≡ adjusted (get_or changes j 0) (of_line c own entering j j) (of_line c own leaving j j)
+stepped-moved c own entering leaving changes steps j e =
+    ap (λ (x : ℕ). adjusted (get_or changes j 0) x (c / 2)) e ∙ moved-step (get_or changes j 0) (c / 2) _ _ (share_half c _ _)
+
+-- what a pass stores for a change d: with a gain added, and with a step added and half a cycle taken off
+pub grown-stored : (changes gains : List ℕ) (j d : ℕ) → d ≡ get_or changes j 0 → (d + get_or gains j 0) % 2 ^ 32 ≡ added changes gains j
+grown-stored changes gains j d e = adjusted-added d _ _ refl ∙ ap (λ (x : ℕ). adjusted x (get_or gains j 0) 0) e
+
+pub moved-stored : (changes steps : List ℕ) (half j d : ℕ) → half < 2 ^ 32 → d ≡ get_or changes j 0
+    → ((d + get_or steps j 0) % 2 ^ 32 + (2 ^ 32 - half)) % 2 ^ 32 ≡ moved changes steps half j
+unfolding adjusted
+moved-stored changes steps half j d h e = rw (← e) (omega arith)
+
+-- and for a sum d, with a number x added
+pub summed-stored : (sums : List ℕ) (f : ℕ → ℕ) (j d x : ℕ) → d ≡ get_or sums j 0 → x ≡ f j → (d + x) % 2 ^ 32 ≡ summed sums f j
+summed-stored sums f j d x e g = rw (e, g)

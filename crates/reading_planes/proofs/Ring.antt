@@ -1,18 +1,20 @@
 -- The ring of planes: the planes of R rows of the padded image, one after the other, do not overlap. Assumes nothing.
 use Prim.Native.Nat.{ℕ, suc, ◌+◌, ◌*◌, ◌/◌, ◌%◌, ◌≤◌, ◌<◌}
-use mathlib.Core.Path.{◌≡◌, sym, ◌∙◌}
+use mathlib.Core.Path.{◌≡◌, refl, ap, sym, ◌∙◌}
 use mathlib.Core.Logic.{◌⊎◌, inl, inr}
 use mathlib.Core.List.{List}
 use native.Mathlib.Omega.{arith}
 use native.Mathlib.Decide.{dec_le, dec_lt, ℕ_discrete}
 use native.Mathlib.Nat.{mod-lt, div-add-mod, mul-le-mul_left, mul-le-mul_right, mul_assoc}
-use lib.ListN.{get_or}
+use lib.ListN.{length, get_or, take, drop}
+use borrow.Rule.Slice.PartMut.{put_mid}
 use Rattle.shape.specs.Need.{reading_need}
 use Rattle.shape.specs.declared.Shape.{Shape}
 use Rattle.memory.specs.Memory.{Outside}
+use Rattle.memory.proofs.Memory.{part-reads, changed_part, outside_part}
 use Rattle.window.proofs.Window.{spot_below}
-use Rattle.reading_planes.specs.Planes.{planes}
-use Rattle.reading_planes.specs.Sums.{place, LineSums, MaskSums}
+use Rattle.reading_planes.specs.Planes.{planes_length}
+use Rattle.reading_planes.specs.Sums.{place, PlaneSums, LineSums, MaskSums}
 
 -- two of m numbers in a row leave different remainders
 ring_step : (m a b : ℕ) → a < b → b < a + m → a % m ≡ b % m → ⊥
@@ -44,16 +46,16 @@ parts_apart n x y ne = go (dec_lt x y)
     go (no l) = let h : y < x = omega arith in inr (omega (arith, mul-le-mul_right n h))
 
 -- all planes lie within the need
-pub place-room : (s : Shape) (a : ℕ) → 0 < s.mask_rows → place s a + planes s ≤ reading_need s
+pub place-room : (s : Shape) (a : ℕ) → 0 < s.mask_rows → place s a + planes_length s ≤ reading_need s
 place-room s a h =
     let r : suc (a % s.mask_rows) ≤ s.mask_rows = mod-lt a h in
-    omega (arith, mul-le-mul_right (planes s) r, mul_assoc s.mask_rows s.mask_columns s.columns)
+    omega (arith, mul-le-mul_right (planes_length s) r, mul_assoc s.mask_rows s.mask_columns s.columns)
 
 -- a part at another name of its place
 pub outside_at : {w w' : List ℕ} {base other n : ℕ} → base ≡ other → Outside w w' base n → Outside w w' other n
 outside_at e x = rw e at x
 
-module _ (s : Shape) {w w' : List ℕ} (a : ℕ) (x : Outside w w' (place s a) (planes s)) where
+module _ (s : Shape) {w w' : List ℕ} (a : ℕ) (x : Outside w w' (place s a) (planes_length s)) where
   -- the planes of one position changed: nothing past the need did
   pub outside-need : 0 < s.mask_rows → Outside w w' 0 (reading_need s)
   outside-need h = record {
@@ -68,19 +70,19 @@ module _ (s : Shape) {w w' : List ℕ} (a : ℕ) (x : Outside w w' (place s a) (
     where
       same : (l : ℕ) → l < s.mask_columns → (q : ℕ) → q < s.columns
           → get_or w' (place s b + l * s.columns + q) 0 ≡ get_or w (place s b + l * s.columns + q) 0
-      same l hl q hq = go (parts_apart (planes s) (b % s.mask_rows) (a % s.mask_rows) ne)
+      same l hl q hq = go (parts_apart (planes_length s) (b % s.mask_rows) (a % s.mask_rows) ne)
         where
-          inside : l * s.columns + q < planes s
+          inside : l * s.columns + q < planes_length s
           inside = spot_below s.mask_columns s.columns l q hl hq
 
-          go : (place s b + planes s ≤ place s a) ⊎ (place s a + planes s ≤ place s b)
+          go : (place s b + planes_length s ≤ place s a) ⊎ (place s a + planes_length s ≤ place s b)
               → get_or w' (place s b + l * s.columns + q) 0 ≡ get_or w (place s b + l * s.columns + q) 0
           go (inl r) = x.before _ (omega (arith, inside))
           go (inr r) = x.after _ (omega (arith, inside))
 
 -- the planes of one position more hold the sums of row i
 pub sums_more : (s : Shape) (image : List ℕ) {w w' : List ℕ} (i lo hi : ℕ) → MaskSums s image i w lo hi → lo ≤ hi → hi < lo + s.mask_rows
-    → LineSums s image i w' hi → Outside w w' (place s hi) (planes s) → MaskSums s image i w' lo (hi + 1)
+    → LineSums s image i w' hi → Outside w w' (place s hi) (planes_length s) → MaskSums s image i w' lo (hi + 1)
 sums_more s image {w} {w'} i lo hi r p q new x a u v = go (ℕ_discrete a hi)
   where
     go : Dec (a ≡ hi) → LineSums s image i w' a
@@ -89,6 +91,31 @@ sums_more s image {w} {w'} i lo hi r p q new x a u v = go (ℕ_discrete a hi)
 
 -- and one position fewer holds those of the row before
 pub sums_less : (s : Shape) (image : List ℕ) {w w' : List ℕ} (i lo hi : ℕ) → MaskSums s image i w lo hi → hi ≤ lo + s.mask_rows
-    → Outside w w' (place s lo) (planes s) → MaskSums s image i w' (lo + 1) hi
+    → Outside w w' (place s lo) (planes_length s) → MaskSums s image i w' (lo + 1) hi
 sums_less s image i lo hi r p x a u v =
     line_kept s lo x (r a (omega arith) v) (ring_apart s.mask_rows lo a lo (omega arith) (omega arith) (omega arith) (omega arith) (omega arith))
+
+-- The planes of one position, lent as a part of the work memory: k numbers from `base` on.
+module _ {s : Shape} {image w : List ℕ} {i a : ℕ} (base k : ℕ) (start : base ≡ place s a) (count : k ≡ planes_length s) where
+  -- they hold the sums that were there
+  pub lent_sums : LineSums s image i w a → PlaneSums s image i a (take k (drop base w))
+  lent_sums x = record {
+    holds = λ l hl q hq.
+        let inside = spot_below s.mask_columns s.columns l q hl hq in
+        let there : base + (l * s.columns + q) ≡ place s a + l * s.columns + q = omega (arith, start) in
+        part-reads w base k (l * s.columns + q) (omega (arith, inside, count)) ∙ ap (λ (p : ℕ). get_or w p 0) there ∙ x.holds l hl q hq;
+  }
+
+  -- and are back with those that they hold then
+  pub sums_back : (part : List ℕ) → base + planes_length s ≤ length w → length part ≡ length (take k (drop base w)) → PlaneSums s image i a part
+      → LineSums s image i (put_mid base k w part) a × Outside w (put_mid base k w part) (place s a) (planes_length s)
+  sums_back part room len x = (
+    record {
+      holds = λ l hl q hq.
+          let inside = spot_below s.mask_columns s.columns l q hl hq in
+          let there : place s a + l * s.columns + q ≡ base + (l * s.columns + q) = omega (arith, start) in
+          let back = changed_part part room count len {f = λ p. get_or part p 0} (λ p h. refl) in
+          ap (λ (p : ℕ). get_or (put_mid base k w part) p 0) there ∙ back.holds (l * s.columns + q) inside ∙ x.holds l hl q hq;
+    },
+    outside_at start (outside_part part room count len),
+  )

@@ -25,14 +25,14 @@ use Rattle.window.specs.Window.{padded, stretch, window}
 use Rattle.window.specs.Ready.{Ready}
 use Rattle.window.proofs.Window.{padded-reading, cycle_heard, shares-small}
 use Rattle.window.proofs.Sums.{change, sum_down, total_columns}
-use Rattle.lines.specs.Lines.{Line, line_length, padded_length}
+use Rattle.lines.specs.Lines.{PaddedLine, line_length, padded_length}
 use Rattle.reading_lines.specs.Passes.{of_line, mark}
 use Rattle.reading_lines.proofs.Marks.{mark-none, mark-silent}
-use Rattle.reading_planes.specs.Planes.{Gain, of_rows, none, marked, whole, planes}
+use Rattle.reading_planes.specs.Planes.{Gain, of_rows, none, marked, whole, planes_length}
 use Rattle.reading_planes.specs.Sums.{place, reading_sum}
 
 -- a plane lies within the planes
-pub plane_within : (s : Shape) (l : ℕ) → l < s.mask_columns → l * s.columns + s.columns ≤ planes s
+pub plane_within : (s : Shape) (l : ℕ) → l < s.mask_columns → l * s.columns + s.columns ≤ planes_length s
 plane_within s l h = part_end l s.mask_columns s.columns h
 
 module _ (s : Shape) (clear : Clear (shape_rules longest_cycle s)) where
@@ -44,21 +44,21 @@ module _ (s : Shape) (clear : Clear (shape_rules longest_cycle s)) where
   line_room = omega (arith, sizes.columns_fit, sizes.mask_columns_fit)
 
   -- the planes of one position, and where they start, are small numbers
-  pub planes_fit : planes s ≤ most_mask_columns * most_columns
+  pub planes_fit : planes_length s ≤ most_mask_columns * most_columns
   planes_fit =
       mul-le-mul {n₁ = s.mask_columns} {m₁ = s.columns} {n₂ = most_mask_columns} {m₂ = most_columns} sizes.mask_columns_fit sizes.columns_fit
 
   pub place-fits : (a : ℕ) → place s a ≤ most_mask_rows * (most_mask_columns * most_columns)
   place-fits a =
       let h : a % s.mask_rows < s.mask_rows = mod-lt a (omega (arith, sizes.mask_rows_odd)) in
-      mul-le-mul {n₁ = a % s.mask_rows} {m₁ = planes s} {n₂ = most_mask_rows} {m₂ = most_mask_columns * most_columns}
+      mul-le-mul {n₁ = a % s.mask_rows} {m₁ = planes_length s} {n₂ = most_mask_rows} {m₂ = most_mask_columns * most_columns}
       (omega (arith, sizes.mask_rows_fit)) planes_fit
 
   -- places of a window lie within a line
   pub place_inside : (l j : ℕ) → l < s.mask_columns → j < s.columns → l + j < padded_length s
   place_inside l j h g = omega (arith, sizes.mask_columns_odd)
 
-module _ {s : Shape} {image : List ℕ} (ready : Ready longest_cycle s image) {own : List ℕ} {a : ℕ} (x : Line s image a own) (l j : ℕ)
+module _ {s : Shape} {image : List ℕ} (ready : Ready longest_cycle s image) {own : List ℕ} {a : ℕ} (x : PaddedLine s image a own) (l j : ℕ)
     (hl : l < s.mask_columns) (hj : j < s.columns) where
   abbrev q : ℕ
   q = padded 0 s image a (l + j)
@@ -67,7 +67,7 @@ module _ {s : Shape} {image : List ℕ} (ready : Ready longest_cycle s image) {o
   at = x.holds (l + j) (place_inside s ready.shape l j hl hj)
 
   -- a row's gain over the columns of the window is what its stretch adds
-  gain_stretch : {row : List ℕ} {b : ℕ} → Line s image b row
+  gain_stretch : {row : List ℕ} {b : ℕ} → PaddedLine s image b row
       → total_from (of_line s.cycle own row (l + j)) j s.mask_columns ≡ shares s.cycle q (stretch (padded 0 s image) s.mask_columns b j)
   gain_stretch {row} {b} y =
       total_from_cong (of_line s.cycle own row (l + j)) (λ k. share s.cycle q (padded 0 s image b k)) j s.mask_columns
@@ -89,8 +89,8 @@ module _ {s : Shape} {image : List ℕ} (ready : Ready longest_cycle s image) {o
   stays : (m f g d : ℕ) → (f + d) % 2 ^ 32 ≡ g → m + g < 2 ^ 31 → (m + f + d) % 2 ^ 32 ≡ m + g
   stays m f g d e h = omega arith
 
-  pub sum_carried : {entering leaving : List ℕ} {i : ℕ} (start : Gain) → i + 1 < s.rows → Line s image (i + s.mask_rows) entering
-      → Line s image i leaving → start l j ≡ reading_sum s image i a l j
+  pub sum_carried : {entering leaving : List ℕ} {i : ℕ} (start : Gain) → i + 1 < s.rows → PaddedLine s image (i + s.mask_rows) entering
+      → PaddedLine s image i leaving → start l j ≡ reading_sum s image i a l j
       → whole s start (of_line s.cycle own entering) (of_line s.cycle own leaving) l j ≡ reading_sum s image (i + 1) a l j
   unfolding change window
   sum_carried {i = i} start hi y z e =
@@ -99,8 +99,8 @@ module _ {s : Shape} {image : List ℕ} (ready : Ready longest_cycle s image) {o
       (stays (mark q) _ _ _ (sum_down (padded 0 s image) s.mask_columns (share s.cycle q) i j s.mask_rows (omega (arith, sums))) sums)
 
   -- the same of row i, from the row before it
-  pub sum_from_above : {entering leaving : List ℕ} {i : ℕ} (start : Gain) → 0 < i → i < s.rows → Line s image (i + s.mask_rows - 1) entering
-      → Line s image (i - 1) leaving → start l j ≡ reading_sum s image (i - 1) a l j
+  pub sum_from_above : {entering leaving : List ℕ} {i : ℕ} (start : Gain) → 0 < i → i < s.rows → PaddedLine s image (i + s.mask_rows - 1) entering
+      → PaddedLine s image (i - 1) leaving → start l j ≡ reading_sum s image (i - 1) a l j
       → whole s start (of_line s.cycle own entering) (of_line s.cycle own leaving) l j ≡ reading_sum s image i a l j
   sum_from_above {i = i} start some hi y z e =
       let next : i - 1 + 1 ≡ i = omega arith in

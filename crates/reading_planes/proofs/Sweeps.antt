@@ -4,7 +4,7 @@ use Prim.Native.Nat.{ℕ, suc, ◌+◌, ◌-◌, ◌*◌, ◌%◌, ◌^◌, ◌�
 use mathlib.Core.Path.{◌≡◌, refl, ap, sym, ◌∙◌}
 use mathlib.Core.List.{List}
 use native.Mathlib.Omega.{arith}
-use native.Mathlib.Decide.{ℕ_discrete, dec_le}
+use native.Mathlib.Decide.{ℕ_discrete}
 use native.Mathlib.Nat.{mul-le-mul_right}
 use lib.ListN.{get_or}
 use Rattle.lists.specs.Total.{total_from}
@@ -15,7 +15,7 @@ use Rattle.shape.specs.declared.Shape.{Shape}
 use Rattle.memory.specs.Memory.{Changed}
 use Rattle.memory.specs.Parts.{zeros}
 use Rattle.memory.proofs.Memory.{holds-before, holds_after}
-use Rattle.reading_planes.specs.Planes.{Gain, net, Counted, Ahead, Behind, Plane, front, whole, gained, Fronts}
+use Rattle.reading_planes.specs.Planes.{Gain, net, Counted, Ahead, Behind, Plane, front, whole, Fronts}
 
 module _ (gain loss : Gain) (p : ℕ) where
   net-none : (k : ℕ) → net gain loss p k 0 ≡ 0
@@ -59,28 +59,29 @@ module _ (s : Shape) (gain loss : Gain) where
   pub behind-none : {z₀ z : List ℕ} → Changed z₀ z 0 (s.columns + s.mask_columns) zeros → Behind s gain loss z 0
   behind-none c = record { holds = λ j h. c.holds j (omega arith) ∙ sym (net-none gain loss (0 + j) j) }
 
-  pub behind_more : {z₀ z : List ℕ} (l : ℕ) → l + 1 < s.mask_columns → Behind s gain loss z₀ l
-      → Counted gain loss (l + 1) 0 (s.columns + (s.mask_columns - 1 - (l + 1))) z₀ z → Behind s gain loss z (l + 1)
-  behind_more {z₀} {z} l h b c = record { holds = at }
+  pub behind_more : {z₀ z : List ℕ} (l : ℕ) → 0 < l → l < s.mask_columns → Behind s gain loss z₀ (l - 1)
+      → Counted gain loss l 0 (s.columns + (s.mask_columns - 1 - l)) z₀ z → Behind s gain loss z l
+  behind_more {z₀} {z} l some h b c = record { holds = at }
     where
-      at : (j : ℕ) → j < s.columns + s.mask_columns - 1 - (l + 1) → get_or z (l + 1 + j) 0 ≡ net gain loss (l + 1 + j) j (l + 1)
+      at : (j : ℕ) → j < s.columns + s.mask_columns - 1 - l → get_or z (l + j) 0 ≡ net gain loss (l + j) j l
       at j g =
-          let e : l + (j + 1) ≡ l + 1 + j = omega arith in
+          let e : l - 1 + (j + 1) ≡ l + j = omega arith in
           let d : 0 + j ≡ j = omega arith in
-          let old : get_or z₀ (l + 1 + j) 0 ≡ net gain loss (l + 1 + j) (j + 1) l = rw e at (b.holds (j + 1) (omega arith)) in
-          c.holds j (omega arith) ∙ rw (old, d) (net-before gain loss (l + 1 + j) j l)
+          let n : l - 1 + 1 ≡ l = omega arith in
+          let old : get_or z₀ (l + j) 0 ≡ net gain loss (l + j) (j + 1) (l - 1) = rw e at (b.holds (j + 1) (omega arith)) in
+          c.holds j (omega arith) ∙ rw (old, d) (net-before gain loss (l + j) j (l - 1) ∙ ap (net gain loss (l + j) j) n)
 
   module _ (start : Gain) where
     -- one plane more after the sweep ahead: `f` is what was stored there
-    pub fronts_none : (w : List ℕ) (base : ℕ) → Fronts s w base start gain loss s.mask_columns
-    fronts_none w base = record { holds = λ l h g. absurd (omega arith) }
+    pub fronts_none : (w : List ℕ) → Fronts s w start gain loss s.mask_columns
+    fronts_none w = record { holds = λ l h g. absurd (omega arith) }
 
-    pub fronts_more : {w₀ w : List ℕ} {f : ℕ → ℕ} {base l : ℕ} → Fronts s w₀ base start gain loss (l + 1)
-        → Changed w₀ w (base + l * s.columns) s.columns f → ((j : ℕ) → j < s.columns → f j ≡ front s start gain loss l j)
-        → Fronts s w base start gain loss l
-    fronts_more {w₀} {w} {f} {base} {l} r c e = record { holds = λ m h g. go m (ℕ_discrete m l) h g }
+    pub fronts_more : {w₀ w : List ℕ} {f : ℕ → ℕ} {l : ℕ} → Fronts s w₀ start gain loss (l + 1)
+        → Changed w₀ w (l * s.columns) s.columns f → ((j : ℕ) → j < s.columns → f j ≡ front s start gain loss l j)
+        → Fronts s w start gain loss l
+    fronts_more {w₀} {w} {f} {l} r c e = record { holds = λ m h g. go m (ℕ_discrete m l) h g }
       where
-        go : (m : ℕ) → Dec (m ≡ l) → l ≤ m → m < s.mask_columns → Plane s w base m (front s start gain loss m)
+        go : (m : ℕ) → Dec (m ≡ l) → l ≤ m → m < s.mask_columns → Plane s w m (front s start gain loss m)
         go m (yes i) h g = rw i (λ j k. c.holds j k ∙ e j k)
         go m (no i) h g =
             let past : suc l ≤ m = omega arith in
@@ -113,35 +114,35 @@ module _ (s : Shape) (gain loss : Gain) where
         rw d (net_both gain loss (l + j) (start l j) j l (s.mask_columns - l) ∙ rw t) in
         all (l + j) refl
 
-    module _ (f : ℕ → ℕ → ℕ) (base : ℕ) where
-      -- on the way behind: planes up to l hold the sums f, the others still their front
-      pub record Swept (w : List ℕ) (l : ℕ) : Type 0 where
-        pub done : (m : ℕ) → m ≤ l → Plane s w base m (f m)
-        pub left : Fronts s w base start gain loss (l + 1)
+    module _ (f : ℕ → ℕ → ℕ) where
+      -- on the way behind: the first n planes hold the sums f, the others still their front
+      pub record Swept (w : List ℕ) (n : ℕ) : Type 0 where
+        pub done : (m : ℕ) → m < n → Plane s w m (f m)
+        pub left : Fronts s w start gain loss n
 
       module _ (sums : (l j : ℕ) → l < s.mask_columns → j < s.columns → whole s start gain loss l j ≡ f l j) where
-        pub swept_first : {w : List ℕ} → 0 < s.mask_columns → Fronts s w base start gain loss 0 → Swept w 0
+        pub swept_first : {w : List ℕ} → 0 < s.mask_columns → Fronts s w start gain loss 0 → Swept w 1
         swept_first {w} h r = record { done = λ m k. first m (omega arith); left = record { holds = λ m k g. r.holds m (omega arith) g } }
           where
-            first : (m : ℕ) → m ≡ 0 → Plane s w base m (f m)
+            first : (m : ℕ) → m ≡ 0 → Plane s w m (f m)
             first m e = rw e (λ j g. r.holds 0 (omega arith) h j g ∙ front-first j ∙ sums 0 j h g)
 
-        pub swept_more : {w w' : List ℕ} (l : ℕ) → l + 1 < s.mask_columns → Swept w l
-            → Changed w w' (base + (l + 1) * s.columns) s.columns (gained w (base + (l + 1) * s.columns) gain loss (l + 1)) → Swept w' (l + 1)
-        swept_more {w} {w'} l h r c = record { done = λ m k. go m (dec_le m l) k; left = record { holds = rest } }
+        pub swept_more : {w w' : List ℕ} (l : ℕ) → l < s.mask_columns → Swept w l
+            → Changed w w' (l * s.columns) s.columns (λ j. (get_or w (l * s.columns + j) 0 + net gain loss (l + j) j l) % 2 ^ 32) → Swept w' (l + 1)
+        swept_more {w} {w'} l h r c = record { done = λ m k. go m (ℕ_discrete m l) k; left = record { holds = rest } }
           where
-            now : Plane s w' base (l + 1) (f (l + 1))
+            now : Plane s w' l (f l)
             now j g =
-                c.holds j g ∙ ap (λ (x : ℕ). (x + net gain loss (l + 1 + j) j (l + 1)) % 2 ^ 32) (r.left.holds (l + 1) (omega arith) h j g)
-                ∙ front-whole (l + 1) j h ∙ sums (l + 1) j h g
+                c.holds j g ∙ ap (λ (x : ℕ). (x + net gain loss (l + j) j l) % 2 ^ 32) (r.left.holds l (omega arith) h j g)
+                ∙ front-whole l j h ∙ sums l j h g
 
-            go : (m : ℕ) → Dec (m ≤ l) → m ≤ l + 1 → Plane s w' base m (f m)
-            go m (yes k) g =
-                let past : suc m ≤ l + 1 = omega arith in
-                holds-before c _ _ _ (omega (arith, mul-le-mul_right s.columns past)) (r.done m k)
-            go m (no k) g = let e : m ≡ l + 1 = omega arith in rw e now
+            go : (m : ℕ) → Dec (m ≡ l) → m < l + 1 → Plane s w' m (f m)
+            go m (yes e) g = rw e now
+            go m (no e) g =
+                let past : suc m ≤ l = omega arith in
+                holds-before c _ _ _ (omega (arith, mul-le-mul_right s.columns past)) (r.done m (omega arith))
 
-            rest : (m : ℕ) → l + 1 + 1 ≤ m → m < s.mask_columns → Plane s w' base m (front s start gain loss m)
+            rest : (m : ℕ) → l + 1 ≤ m → m < s.mask_columns → Plane s w' m (front s start gain loss m)
             rest m k g =
-                let past : suc (l + 1) ≤ m = omega arith in
+                let past : suc l ≤ m = omega arith in
                 holds_after c _ _ _ (omega (arith, mul-le-mul_right s.columns past)) (r.left.holds m (omega arith) g)

@@ -5,7 +5,9 @@ use mathlib.Core.Logic.{inl, inr}
 use mathlib.Core.Bool.{Bool, true}
 use mathlib.Core.List.{List}
 use native.Mathlib.Omega.{arith}
-use lib.ListN.{get_or}
+use lib.ListN.{get_or, take, drop}
+use Rattle.std.proofs.lemmas.List.{length-take, length-drop}
+use Rattle.memory.proofs.Memory.{part-reads}
 use Rattle.refusal.specs.Limits.{longest_cycle}
 use Rattle.refusal.specs.Outcome.{Clear}
 use Rattle.cycle.specs.Distance.{distance}
@@ -38,13 +40,18 @@ module _ (s : Shape) (clear : Clear (shape_rules longest_cycle s)) where
         go (inl short) = share_short s.cycle _ _ short (x.readings a h) (y.readings b g)
         go (inr both) = sym (share-heard s.cycle _ _ (both.0 a h) (both.1 b g))
 
-    pub measurable : (l at n : ℕ) → l + n ≤ padded_length s → at + n ≤ padded_length s → Measurable plain s.cycle own row l at n
-    measurable l at n h g = record {
-      own_room = omega (arith, x.len, padded-fits);
-      row_room = omega (arith, y.len, padded-fits);
-      plainly = λ e j k. gains e (l + j) (at + j) (omega arith) (omega arith);
+    pub measurable : (l at k m : ℕ) → k ≤ m → l + k ≤ padded_length s → at + m ≤ padded_length s
+        → Measurable plain s.cycle (take k (drop l own)) (take m (drop at row))
+    measurable l at k m e h g = record {
+      row_long = omega (arith, length-take k (drop l own), length-drop l own, length-take m (drop at row), length-drop at row, y.len, padded-fits);
+      plainly = λ t j b.
+          let inside : j < k = omega (arith, length-take k (drop l own), b) in
+          let within : j < m = omega arith in
+          rw (part-reads own l k j inside, part-reads row at m j within) (gains t (l + j) (at + j) (omega arith) (omega arith));
     }
 
--- on the list's cycle such lines meet what is asked by `distances_listed` and its companions (reading_lines/proofs/Listed.antt)
-pub reads-listed : (s : Shape) {line : List ℕ} → s.cycle ≡ listed_cycle → Reads s line → (at n : ℕ) → at + n ≤ padded_length s → ListedReadings line at n
-reads-listed s e x at n h j g = rw e at (x.readings (at + j) (omega arith))
+-- on the list's cycle parts of such lines meet what is asked by `distances_listed` and its companions (reading_lines/proofs/Listed.antt)
+pub reads-listed : (s : Shape) {line : List ℕ} → s.cycle ≡ listed_cycle → Reads s line → (at k n : ℕ) → n ≤ k → at + n ≤ padded_length s
+    → ListedReadings (take k (drop at line)) n
+reads-listed s {line} e x at k n short h j g =
+    let inside : j < k = omega arith in rw (part-reads line at k j inside) (rw e at (x.readings (at + j) (omega arith)))

@@ -9,43 +9,43 @@ use lib.ListN.{get_or}
 use Rattle.shape.specs.declared.Shape.{Shape}
 use Rattle.memory.specs.Memory.{Changed, Outside}
 use Rattle.memory.proofs.Memory.{outside-none, outside_lower}
-use Rattle.reading_planes.specs.Planes.{Gain, Counted, Ahead, Fronts, held, planes}
+use Rattle.reading_planes.specs.Planes.{Gain, Counted, Ahead, Fronts, held}
 use Rattle.reading_planes.proofs.Sweeps.{ahead_none, ahead_more, ahead-front, fronts_none, fronts_more}
 
--- w₀ is the work memory before the sweep, `first` what the changes begin at, and `begun` what its planes count from
-pub record SweepAhead (s : Shape) (base : ℕ) (first : ℕ → ℕ) (begun gain loss : Gain) (w₀ w change : List ℕ) (m : ℕ) : Type 0 where
+-- w₀ is what the planes held before the sweep, `first` what the changes begin at, and `begun` what its planes count from
+pub record SweepAhead (s : Shape) (first : ℕ → ℕ) (begun gain loss : Gain) (w₀ w change : List ℕ) (m : ℕ) : Type 0 where
   pub within : m ≤ s.mask_columns
   pub ahead : Ahead s first gain loss change m
-  pub fronts : Fronts s w base begun gain loss (s.mask_columns - m)
-  pub outside : Outside w₀ w (base + (s.mask_columns - m) * s.columns) (m * s.columns)
+  pub fronts : Fronts s w begun gain loss (s.mask_columns - m)
+  pub outside : Outside w₀ w ((s.mask_columns - m) * s.columns) (m * s.columns)
 
-module _ {s : Shape} {base : ℕ} {first : ℕ → ℕ} {begun gain loss : Gain} where
+module _ {s : Shape} {first : ℕ → ℕ} {begun gain loss : Gain} where
   pub sweep_none : {w change₀ change : List ℕ} → ((p : ℕ) → first p < 2 ^ 32) → Changed change₀ change 0 (s.columns + s.mask_columns) first
-      → SweepAhead s base first begun gain loss w w change 0
+      → SweepAhead s first begun gain loss w w change 0
   sweep_none {w} fits c =
       let e : s.mask_columns - 0 ≡ s.mask_columns = omega arith in
       record {
         within = omega arith;
         ahead = ahead_none s gain loss first fits c;
-        fronts = rw e (fronts_none s gain loss begun w base);
+        fronts = rw e (fronts_none s gain loss begun w);
         outside = outside-none;
       }
 
-  module _ {w₀ w change : List ℕ} {m : ℕ} (x : SweepAhead s base first begun gain loss w₀ w change m) where
+  module _ {w₀ w change : List ℕ} {m : ℕ} (x : SweepAhead s first begun gain loss w₀ w change m) where
     module _ (h : m < s.mask_columns) where
       -- the plane of the turn holds what it held
       pub sweep_held : (j : ℕ) → j < s.columns
-          → get_or w (base + (s.mask_columns - 1 - m) * s.columns + j) 0 ≡ held s w₀ base (s.mask_columns - 1 - m) j
+          → get_or w ((s.mask_columns - 1 - m) * s.columns + j) 0 ≡ held s w₀ (s.mask_columns - 1 - m) j
       sweep_held j g =
           let last : s.mask_columns - m ≡ s.mask_columns - 1 - m + 1 = omega arith in
           x.outside.before _ (rw last (omega (arith, add-mul (s.mask_columns - 1 - m) 1 s.columns)))
 
       -- one turn more: `f` is what is stored there, the changes added to x, and x is what the planes count from beyond the changes
       pub sweep_more : {w' change' : List ℕ} {f : ℕ → ℕ} (x : ℕ → ℕ) → Counted gain loss 0 m (s.columns + (s.mask_columns - 1 - m)) change change'
-          → Changed w w' (base + (s.mask_columns - 1 - m) * s.columns) s.columns f
+          → Changed w w' ((s.mask_columns - 1 - m) * s.columns) s.columns f
           → ((j : ℕ) → j < s.columns → f j ≡ (x j + get_or change' (s.mask_columns - 1 - m + j) 0) % 2 ^ 32)
           → ((j : ℕ) → j < s.columns → x j + first (s.mask_columns - 1 - m + j) ≡ begun (s.mask_columns - 1 - m) j)
-          → SweepAhead s base first begun gain loss w₀ w' change' (m + 1)
+          → SweepAhead s first begun gain loss w₀ w' change' (m + 1)
       sweep_more {w'} {change'} {f} y c d e from =
           let l = s.mask_columns - 1 - m in
           let last : s.mask_columns - m ≡ l + 1 = omega arith in
@@ -61,9 +61,5 @@ module _ {s : Shape} {base : ℕ} {first : ℕ → ℕ} {begun gain loss : Gain}
           }
 
     -- after the last turn
-    pub sweep_all : s.mask_columns ≤ m → Fronts s w base begun gain loss 0 × Outside w₀ w base (planes s)
-    sweep_all g =
-        let e : s.mask_columns - m ≡ 0 = omega (arith, x.within) in
-        let d : m ≡ s.mask_columns = omega (arith, x.within) in
-        let first : base + 0 * s.columns ≡ base = omega arith in
-        (rw e at x.fronts, rw (e, d, first) at x.outside)
+    pub sweep_all : s.mask_columns ≤ m → Fronts s w begun gain loss 0
+    sweep_all g = let e : s.mask_columns - m ≡ 0 = omega (arith, x.within) in rw e at x.fronts

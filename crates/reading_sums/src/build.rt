@@ -1,122 +1,127 @@
-// Planes built afresh, from every row under the mask. Functions here take more than ten parameters: lines are
-// lent one by one.
-ghost use Rattle.std.specs.Prelude.{◌+◌, ◌-◌, ◌≤◌, ◌<◌, length};
-ghost use Rattle.refusal.specs.Limits.{longest_cycle};
-ghost use Rattle.memory.specs.Memory.{Changed, Outside};
-ghost use Rattle.window.specs.Ready.{Ready};
-ghost use Rattle.lines.specs.Lines.{IsLine, Reads, Line};
-ghost use Rattle.reading_planes.specs.Planes.{of_rows, none, marked, Counted, Behind, Fronts, planes, gained};
+// Planes built afresh, from every row under the mask.
+ghost use Rattle.std.specs.Prelude.{◌≡◌, ◌+◌, ◌-◌, ◌<◌, length};
+ghost use Rattle.memory.specs.Memory.{Each};
+ghost use Rattle.lines.specs.Lines.{Reads, PaddedLine};
+ghost use Rattle.reading_planes.specs.Planes.{of_rows, none, marked, counted, Behind, Fronts, planes_length, gained};
 
-use lines::pad;
+use crate::Changes;
+use lines::{Image, Line};
 use median::is_short;
-use memory::{add, put};
+use memory::add;
 use reading_lines::{begin, distances, distances_to_two, grow};
-use shape::Shape;
 
-// Counts, over all mask rows of row i, the columns from `at` on at the places from `start` on: two rows at a
-// time, and `last`, the last one, alone, since the mask rows are odd in number.
-fn count_rows(
-    shape: Shape,
-    image: &[u16],
-    i: usize,
-    own: &[u16],
-    start: usize,
-    at: usize,
-    last: &[u16],
-    row: &mut [u16],
-    other: &mut [u16],
-    change: &mut [u32],
-    step: &mut [u16],
-)
-    requires ready { Ready longest_cycle shape image.now × (i < shape.rows) × (start + at < shape.mask_columns) }
-    requires reads { Reads shape own.now × Line shape image.now (i + shape.mask_rows - 1) last.now }
-    requires line { IsLine row.old × IsLine other.old × IsLine change.old × IsLine step.old }
-    ensures { Counted (of_rows shape image.now i own.now) none start at (shape.columns + (shape.mask_columns - 1 - (start + at)))
-        change.old change.new }
-{
-    let cycle = shape.cycle as u16;
-    let plain = is_short(shape.cycle);
-    let rows = shape.mask_rows as usize;
-    let n = shape.columns as usize + (shape.mask_columns as usize - 1 - (start + at));
-    let mut k = 0;
-    while k + 1 < rows {
-        pad(shape, image, i + k, row);
-        pad(shape, image, i + k + 1, other);
-        distances_to_two(cycle, own, start, row, other, at, step, n, plain);
-        grow(change, start, step, n);
-        k += 2;
-    }
-    distances(cycle, own, start, last, at, step, n, plain);
-    grow(change, start, step, n);
+// A line whose planes are built in row i. `last` is the last row of its windows.
+#[derive(Clone, Copy)]
+pub struct Built<'a> {
+    pub image: Image<'a>,
+    pub i: usize,
+    pub own: &'a Line,
+    pub last: &'a Line,
+    ghost inside: { i < image.shape.rows },
+    ghost own_reads: { Reads image.shape own.now },
+    ghost last_row: { PaddedLine image.shape image.readings.now (i + image.shape.mask_rows - 1) last.now },
 }
 
-// The sweep ahead, over every plane of the readings of `own`.
-pub fn build_ahead(
-    shape: Shape,
-    image: &[u16],
-    i: usize,
-    work: &mut [u32],
-    base: usize,
-    own: &[u16],
-    last: &[u16],
-    row: &mut [u16],
-    other: &mut [u16],
-    change: &mut [u32],
-    step: &mut [u16],
-)
-    requires ready { Ready longest_cycle shape image.now × (i < shape.rows) × (base + planes shape ≤ length work.old) }
-    requires reads { Reads shape own.now × Line shape image.now (i + shape.mask_rows - 1) last.now }
-    requires line { IsLine row.old × IsLine other.old × IsLine change.old × IsLine step.old }
-    ensures fronts { Fronts shape work.new base (marked own.now) (of_rows shape image.now i own.now) none 0 }
-    ensures outside { Outside work.old work.new base (planes shape) }
-{
-    let columns = shape.columns as usize;
-    let mask = shape.mask_columns as usize;
-    begin(change, own, columns + mask);
-    let mut m = 0;
-    while m < mask {
-        let l = mask - 1 - m;
-        count_rows(shape, image, i, own, 0, m, last, row, other, change, step);
-        put(work, base + l * columns, change, l, columns);
-        m += 1;
+impl<'a> Built<'a> {
+    // Counts, over all mask rows, the columns from `at` on at the places from `start` on: two rows at a time,
+    // and the last one alone, since the mask rows are odd in number. `row` and `other` are memory for lines.
+    fn count(
+        &self,
+        start: usize,
+        at: usize,
+        changes: &mut [u32],
+        gains: &mut Line,
+        row: &mut Line,
+        other: &mut Line,
+    )
+        requires offset { start + at < self.now.image.shape.mask_columns }
+        requires rest_of_line { length changes.old ≡ self.now.image.shape.columns + (self.now.image.shape.mask_columns - 1 - (start + at)) }
+        ensures { Each changes.new
+            (counted (of_rows self.now.image.shape self.now.image.readings.now self.now.i self.now.own.now) none start at changes.old) }
+    {
+        let Built {
+            image,
+            i,
+            own,
+            last,
+        } = *self;
+        let cycle = image.shape.cycle as u16;
+        let plain = is_short(image.shape.cycle);
+        let n = changes.len();
+        for pair in 0..image.shape.mask_rows as usize / 2 {
+            let top = i + 2 * pair;
+            image.pad(top, row);
+            image.pad(top + 1, other);
+            distances_to_two(
+                cycle,
+                &own[start..start + n],
+                &row[at..at + n],
+                &other[at..at + n],
+                gains,
+                plain,
+            );
+            grow(changes, &gains[..n]);
+        }
+        distances(
+            cycle,
+            &own[start..start + n],
+            &last[at..at + n],
+            gains,
+            plain,
+        );
+        grow(changes, &gains[..n]);
     }
-}
 
-// One turn of the sweep behind: plane l + 1, from the changes of plane l.
-pub fn build_on(
-    shape: Shape,
-    image: &[u16],
-    i: usize,
-    work: &mut [u32],
-    plane: usize,
-    l: usize,
-    own: &[u16],
-    last: &[u16],
-    row: &mut [u16],
-    other: &mut [u16],
-    change: &mut [u32],
-    step: &mut [u16],
-)
-    requires ready { Ready longest_cycle shape image.now × (i < shape.rows) × (l + 1 < shape.mask_columns) × (plane + shape.columns ≤ length work.old) }
-    requires reads { Reads shape own.now × Line shape image.now (i + shape.mask_rows - 1) last.now }
-    requires line { IsLine row.old × IsLine other.old × IsLine change.old × IsLine step.old }
-    requires behind { Behind shape (of_rows shape image.now i own.now) none change.old l }
-    ensures behind_2 { Behind shape (of_rows shape image.now i own.now) none change.new (l + 1) }
-    ensures changed { Changed work.old work.new plane shape.columns
-        (gained work.old plane (of_rows shape image.now i own.now) none (l + 1)) }
-{
-    count_rows(
-        shape,
-        image,
-        i,
-        own,
-        l + 1,
-        0,
-        last,
-        row,
-        other,
-        change,
-        step,
-    );
-    add(work, plane, change, l + 1, shape.columns as usize);
+    // The sweep ahead, over every plane.
+    pub fn ahead(
+        &self,
+        planes: &mut [u32],
+        changes: &mut Changes,
+        gains: &mut Line,
+        row: &mut Line,
+        other: &mut Line,
+    )
+        requires { length planes.old ≡ planes_length self.now.image.shape }
+        ensures fronts { Fronts self.now.image.shape planes.new (marked self.now.own.now)
+            (of_rows self.now.image.shape self.now.image.readings.now self.now.i self.now.own.now) none 0 }
+        ensures behind { Behind self.now.image.shape
+            (of_rows self.now.image.shape self.now.image.readings.now self.now.i self.now.own.now) none changes.new 0 }
+    {
+        let columns = self.image.shape.columns as usize;
+        let mask = self.image.shape.mask_columns as usize;
+        let own = self.own;
+        begin(&mut changes[..columns + mask], own);
+        for m in 0..mask {
+            let l = mask - 1 - m;
+            let start = l * columns;
+            self.count(0, m, &mut changes[..columns + l], gains, row, other);
+            planes[start..start + columns].copy_from_slice(&changes[l..l + columns]);
+        }
+        changes[..columns + mask].fill(0);
+    }
+
+    // One turn of the sweep behind: plane l, from the changes of the plane before it.
+    pub fn behind(
+        &self,
+        l: usize,
+        plane: &mut [u32],
+        changes: &mut Changes,
+        gains: &mut Line,
+        row: &mut Line,
+        other: &mut Line,
+    )
+        requires later_plane { (0 < l) × (l < self.now.image.shape.mask_columns) }
+        requires one_plane { length plane.old ≡ self.now.image.shape.columns }
+        requires behind { Behind self.now.image.shape
+            (of_rows self.now.image.shape self.now.image.readings.now self.now.i self.now.own.now) none changes.old (l - 1) }
+        ensures behind_next { Behind self.now.image.shape
+            (of_rows self.now.image.shape self.now.image.readings.now self.now.i self.now.own.now) none changes.new l }
+        ensures gained { Each plane.new
+            (gained plane.old (of_rows self.now.image.shape self.now.image.readings.now self.now.i self.now.own.now) none l) }
+    {
+        let columns = self.image.shape.columns as usize;
+        let n = columns + self.image.shape.mask_columns as usize - 1 - l;
+        self.count(l, 0, &mut changes[l..l + n], gains, row, other);
+        add(plane, &changes[l..l + columns]);
+    }
 }

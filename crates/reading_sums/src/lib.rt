@@ -8,5 +8,9 @@
 mod build;
 mod carry;
 
-pub use build::{build_ahead, build_on};
-pub use carry::{carry_ahead, carry_on};
+pub use build::Built;
+pub use carry::Carried;
+use lines::LINE;
+
+// The changes that a sweep makes at the places of a line, modulo 2^32.
+pub type Changes = [u32; LINE];

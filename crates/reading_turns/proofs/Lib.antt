@@ -1,2 +1,1 @@
 pub mod Sweeping
-pub mod Turn

@@ -1,74 +1,72 @@
--- A mask row on its way through the sweep behind: the planes up to l have the sums of row i. The same for planes that are carried and for
+-- A mask row on its way through the sweep behind: its first planes have the sums of row i. The same for planes that are carried and for
 -- planes that are built. Assumes nothing.
-use Prim.Native.Nat.{ℕ, ◌+◌, ◌*◌, ◌<◌}
-use mathlib.Core.Path.{◌≡◌}
+use Prim.Native.Nat.{ℕ, ◌+◌, ◌-◌, ◌*◌, ◌%◌, ◌^◌, ◌≤◌, ◌<◌}
+use mathlib.Core.Path.{◌≡◌, ◌∙◌}
 use mathlib.Core.List.{List}
 use native.Mathlib.Omega.{arith}
-use lib.ListN.{get_or}
-use Rattle.refusal.specs.Limits.{longest_cycle}
+use lib.ListN.{length, get_or, take, drop}
+use borrow.Rule.Slice.PartMut.{put_mid}
+use Rattle.std.proofs.lemmas.List.{length-take}
 use Rattle.shape.specs.declared.Shape.{Shape}
-use Rattle.memory.specs.Memory.{Changed, Signed}
-use Rattle.memory.specs.Parts.{zeros, copied}
-use Rattle.window.specs.Ready.{Ready}
-use Rattle.lines.specs.Lines.{Line, Centres}
-use Rattle.reading_planes.specs.Planes.{Gain, Behind, Fronts, whole, gained}
-use Rattle.reading_planes.specs.Sums.{place, reading_sum, LineSums}
-use Rattle.reading_planes.proofs.Sweeps.{Swept, swept_first, swept_more, behind-none}
-use Rattle.reading_choice.specs.Ranks.{ranked, kept_sum, kept_rank}
-use Rattle.reading_choice.specs.Weighed.{RowWeighed}
-use Rattle.reading_choice.proofs.RowLaws.{row_more, row_signed, plane_signed}
+use Rattle.memory.specs.Memory.{Each, Changed}
+use Rattle.memory.proofs.Memory.{changed_is, changed_part, part-reads}
+use Rattle.reading_planes.specs.Planes.{Gain, net, Behind, Fronts, whole, gained, planes_length}
+use Rattle.reading_planes.specs.Sums.{reading_sum, PlaneSums}
+use Rattle.reading_planes.proofs.Sums.{plane_within}
+use Rattle.reading_planes.proofs.Sweeps.{Swept, swept_first, swept_more}
 
-pub record Sweeping (s : Shape) (image : List ℕ) (i a base : ℕ) (gain loss : Gain) (w change : List ℕ) (l : ℕ) : Type 0 where
+-- a part at another name of its place
+changed_at : {w w' : List ℕ} {base other n : ℕ} (f : ℕ → ℕ → ℕ) → base ≡ other → Changed w w' base n (f base) → Changed w w' other n (f other)
+changed_at f e x = rw e at x
+
+-- the first n planes have their sums, and the changes are those of plane n - 1
+pub record Sweeping (s : Shape) (image : List ℕ) (i a : ℕ) (gain loss : Gain) (w changes : List ℕ) (n : ℕ) : Type 0 where
   -- what the planes held before the sweeps
   pub begun : Gain
   pub sums : (m j : ℕ) → m < s.mask_columns → j < s.columns → whole s begun gain loss m j ≡ reading_sum s image i a m j
-  pub swept : Swept s gain loss begun (reading_sum s image i a) base w l
-  pub behind : Behind s gain loss change l
+  pub within : n ≤ s.mask_columns
+  pub count : length w ≡ planes_length s
+  pub swept : Swept s gain loss begun (reading_sum s image i a) w n
+  pub behind : Behind s gain loss changes (n - 1)
 
-module _ {s : Shape} {image : List ℕ} {i a base : ℕ} {gain loss : Gain} where
-  pub sweeping_first : {w change₀ change : List ℕ} (begun : Gain) → 0 < s.mask_columns
+module _ {s : Shape} {image : List ℕ} {i a : ℕ} {gain loss : Gain} where
+  pub sweeping_first : {w changes : List ℕ} (begun : Gain) → 0 < s.mask_columns → length w ≡ planes_length s
       → ((m j : ℕ) → m < s.mask_columns → j < s.columns → whole s begun gain loss m j ≡ reading_sum s image i a m j)
-      → Fronts s w base begun gain loss 0 → Changed change₀ change 0 (s.columns + s.mask_columns) zeros
-      → Sweeping s image i a base gain loss w change 0
-  sweeping_first begun h sums f z = record {
+      → Fronts s w begun gain loss 0 → Behind s gain loss changes 0 → Sweeping s image i a gain loss w changes 1
+  sweeping_first begun h e sums f b = record {
     begun = begun;
     sums = sums;
-    swept = swept_first s gain loss begun (reading_sum s image i a) base sums h f;
-    behind = behind-none s gain loss z;
-  }
-
-  pub sweeping_more : {w w' change change' : List ℕ} {l plane : ℕ} → Sweeping s image i a base gain loss w change l → l + 1 < s.mask_columns
-      → plane ≡ base + (l + 1) * s.columns → Changed w w' plane s.columns (gained w plane gain loss (l + 1)) → Behind s gain loss change' (l + 1)
-      → Sweeping s image i a base gain loss w' change' (l + 1)
-  sweeping_more {l = l} r h e c b = record {
-    begun = r.begun;
-    sums = r.sums;
-    swept = swept_more s gain loss r.begun (reading_sum s image i a) base r.sums l h r.swept (rw e at c);
+    within = omega arith;
+    count = e;
+    swept = swept_first s gain loss begun (reading_sum s image i a) sums h f;
     behind = b;
   }
 
-  -- the plane that is due has its sums
-  pub sweeping_plane : {w change : List ℕ} {l plane : ℕ} → Sweeping s image i a base gain loss w change l → plane ≡ base + l * s.columns
-      → (j : ℕ) → j < s.columns → get_or w (plane + j) 0 ≡ reading_sum s image i a l j
-  sweeping_plane {l = l} r e j h = rw e (r.swept.done l (omega arith) j h)
+  -- one plane more: it was lent as a part of the planes
+  pub sweeping_more : {w changes changes' : List ℕ} (l base k : ℕ) (plane : List ℕ) → Sweeping s image i a gain loss w changes l → l < s.mask_columns
+      → base ≡ l * s.columns → k ≡ s.columns → length plane ≡ length (take k (drop base w)) → Each plane (gained (take k (drop base w)) gain loss l)
+      → Behind s gain loss changes' l → Sweeping s image i a gain loss (put_mid base k w plane) changes' (l + 1)
+  sweeping_more {w} l base k plane r h e d len each b =
+      let next : l + 1 - 1 ≡ l = omega arith in
+      let back = changed_part {w = w} plane (omega (arith, r.count, plane_within s l h, e)) d len each in
+      let counted = changed_is (λ j. (get_or w (base + j) 0 + net gain loss (l + j) j l) % 2 ^ 32) back (λ j g.
+      let inside : j < k = omega arith in
+      rw (part-reads w base k j inside)) in record {
+        begun = r.begun;
+        sums = r.sums;
+        within = omega arith;
+        count = back.len ∙ r.count;
+        swept = swept_more s gain loss r.begun (reading_sum s image i a) r.sums l h r.swept (changed_at (λ b j. (get_or w (b + j) 0 + net gain loss (l + j) j l) % 2 ^ 32) e counted);
+        behind = rw next b;
+      }
+
+  -- plane l, lent as a part of the planes, has its sums
+  pub sweeping_plane : {w changes : List ℕ} {n : ℕ} (l base k : ℕ) → Sweeping s image i a gain loss w changes n → l < n → base ≡ l * s.columns → k ≡ s.columns
+      → Each (take k (drop base w)) (reading_sum s image i a l)
+  sweeping_plane {w} l base k r h e d j g =
+      let inside : j < k = omega (arith, length-take k (drop base w), g) in
+      part-reads w base k j inside ∙ rw e (r.swept.done l h j (omega arith))
 
   -- so have all planes in the end
-  pub sweeping_last : {w change : List ℕ} {l : ℕ} → Sweeping s image i a base gain loss w change l → s.mask_columns ≡ l + 1 → base ≡ place s a
-      → LineSums s image i w a
-  sweeping_last r h e = record { holds = λ m g. rw e at (r.swept.done m (omega arith)) }
-
--- the plane that is due may be weighed, and then one reading more of each window is
-module _ {s : Shape} {image : List ℕ} {i k l base plane : ℕ} {gain loss : Gain} {w change : List ℕ} (ready : Ready longest_cycle s image)
-    (hi : i < s.rows) (hk : k < s.mask_rows) (hl : l < s.mask_columns) (r : Sweeping s image i (i + k) base gain loss w change l)
-    (e : plane ≡ base + l * s.columns) {least nearest : List ℕ} (x : RowWeighed s image i k l least nearest) where
-  pub weigh_signed : {own : List ℕ} → Line s image (i + k) own
-      → Signed (copied w plane) s.columns × Signed (copied least 0) s.columns × Signed (copied nearest 0) s.columns
-  weigh_signed y =
-      let kept = row_signed ready hi hk (omega arith) x in
-      (plane_signed ready hi hk hl w plane y (sweeping_plane r e), kept.0, kept.1)
-
-  pub weigh_done : {own centres least' nearest' : List ℕ} → Line s image (i + k) own → Centres s image i centres
-      → Changed least least' 0 s.columns (kept_sum w plane (ranked s.cycle centres own l) least nearest)
-      → Changed nearest nearest' 0 s.columns (kept_rank w plane (ranked s.cycle centres own l) least nearest)
-      → RowWeighed s image i k (l + 1) least' nearest'
-  weigh_done y z a b = row_more ready hi hk hl w plane y z (sweeping_plane r e) a b x
+  pub sweeping_last : {w changes : List ℕ} {n : ℕ} → Sweeping s image i a gain loss w changes n → s.mask_columns ≤ n → PlaneSums s image i a w
+  sweeping_last r h = record { holds = λ m g. r.swept.done m (omega (arith, r.within)) }

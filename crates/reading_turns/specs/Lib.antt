@@ -1,1 +1,1 @@
-pub mod Scratch
+pub mod Completes

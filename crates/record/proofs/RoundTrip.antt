@@ -1,15 +1,12 @@
 -- The round trip, from what the contracts of the writer and the reader promise and nothing else: what was written reads back, and
 -- what was read, with four bytes in its mask field, is written again byte by byte. Assumes nothing.
-use Prim.Native.Nat.{ℕ, ◌≤◌, ◌<◌}
-use mathlib.Core.Path.{◌≡◌, ap, sym, ◌∙◌}
-use mathlib.Core.List.{List}
-use native.Mathlib.Omega.{arith}
-use lib.ListN.{length, take}
+use Rattle.std.proofs.Common.{ℕ, ◌≤◌, ◌<◌, ◌≡◌, ap, sym, ◌∙◌, List, length, take, Result, Ok, Err}
 use Rattle.lists.specs.Front.{at_front}
 use Rattle.lists.proofs.Stores.{front_taken}
-use Rattle.refusal.specs.Outcome.{after}
+use Rattle.refusal.specs.declared.Refusal.{Refusal}
+use Rattle.refusal.specs.Outcome.{outcome, after}
 use Rattle.refusal.specs.Outcome.Outcome.{accepted, refused}
-use Rattle.refusal.proofs.Outcome.{accepted_clear, accepted_value, after-refused, after-accepted}
+use Rattle.refusal.proofs.Outcome.{not_refused, accepted_clear, accepted_value, after-refused, after-accepted}
 use Rattle.shape.specs.declared.Shape.{Shape}
 use Rattle.shape.specs.Rules.{area}
 use Rattle.record_format.specs.Fields.{Bytes}
@@ -20,29 +17,19 @@ use Rattle.record_format.proofs.Writable.{Writable, writable}
 use Rattle.record_format.proofs.Readable.{readable, length_image}
 use Rattle.record_format.proofs.Written.{image_back, written_read, written_short}
 use Rattle.record_format.proofs.Reread.{bytes_back, read_written}
-use Rattle.record.specs.declared.ReadAnswer.{ReadAnswer}
-use Rattle.record.specs.declared.WriteAnswer.{WriteAnswer}
-use Rattle.record.specs.declared.ReadAnswer.TheVariants.{Read}
-use Rattle.record.specs.declared.WriteAnswer.TheVariants.{Written}
-use Rattle.record.specs.Calls.{read_outcome, write_outcome, ReadCall, WriteCall}
-use Rattle.record.specs.declared.ReadAnswer.TheVariants as reads
-use Rattle.record.specs.declared.WriteAnswer.TheVariants as writes
+use Rattle.record.specs.Calls.{ReadCall, WriteCall}
 
 -- an answer is told by its outcome
-told_read : (r : ReadAnswer) (s : Shape) → read_outcome r ≡ accepted s → r ≡ Read s
-told_read (reads.Read t) s e = cc
-told_read (reads.Refused f) s e = let z : ◌≡◌ {A = ℕ} 0 1 = cc in absurd (omega arith)
-
-told-written : (r : WriteAnswer) (n : ℕ) → write_outcome r ≡ accepted n → r ≡ Written n
-told-written (writes.Written m) n e = cc
-told-written (writes.Refused f) n e = let z : ◌≡◌ {A = ℕ} 0 1 = cc in absurd (omega arith)
+told_accepted : {A : Type 0} (r : Result A Refusal) (v : A) → outcome r ≡ accepted v → r ≡ Ok v
+told_accepted (Ok w) v e = cc
+told_accepted (Err f) v e = not_refused (sym e)
 
 -- what it says that the writer has written: its tests were clear, and its bytes are the record's
 record HasWritten (s : Shape) (readings bytes : List ℕ) (n : ℕ) (bytes' : List ℕ) : Type 0 where
   tests : Writable s readings (length bytes)
   bytes_are : take n bytes' ≡ record_bytes s readings
 
-has_written : {s : Shape} {readings bytes : List ℕ} {n : ℕ} {bytes' : List ℕ} → WriteCall s readings bytes (Written n) bytes'
+has_written : {s : Shape} {readings bytes : List ℕ} {n : ℕ} {bytes' : List ℕ} → WriteCall s readings bytes (Ok n) bytes'
     → HasWritten s readings bytes n bytes'
 unfolding write_due
 has_written {s} {readings} {bytes} {n} {bytes'} w =
@@ -57,7 +44,7 @@ has_written {s} {readings} {bytes} {n} {bytes'} w =
 
 -- The writer returned n, and a reader is given exactly the first n bytes.
 module _ {s : Shape} {readings bytes : List ℕ} {n : ℕ} {bytes' : List ℕ}
-    (w : WriteCall s readings bytes (Written n) bytes') (buffer : List ℕ) {buffer' : List ℕ}
+    (w : WriteCall s readings bytes (Ok n) bytes') (buffer : List ℕ) {buffer' : List ℕ}
     (memory : buffer' ≡ after (read_due (take n bytes') (length buffer)) (λ s. at_front (image_in (take n bytes')) buffer) buffer) where
   -- with room for the readings it is told the same five numbers, and the buffer begins with the readings that were written; the rest
   -- of it is as it was
@@ -80,7 +67,7 @@ module _ {s : Shape} {readings bytes : List ℕ} {n : ℕ} {bytes' : List ℕ}
 -- The reader accepted b, whose mask field says length 4, and a writer is given what was read, with room for as many bytes as b has: it
 -- is told that number, and the bytes begin with b; the rest of them is as it was.
 module _ {b buffer buffer' : List ℕ} {s : Shape} (bytes : List ℕ) {bytes' : List ℕ} where
-  pub call_writes_back : Bytes b → ReadCall b buffer (Read s) buffer' → mask_said b ≡ 4
+  pub call_writes_back : Bytes b → ReadCall b buffer (Ok s) buffer' → mask_said b ≡ 4
       → bytes' ≡ after (write_due s (take (area s) buffer') (length bytes)) (λ n. at_front (record_bytes s (take (area s) buffer')) bytes) bytes
       → length b ≤ length bytes
       → (write_due s (take (area s) buffer') (length bytes) ≡ accepted (length b)) × (bytes' ≡ at_front b bytes)
@@ -98,19 +85,19 @@ module _ {b buffer buffer' : List ℕ} {s : Shape} (bytes : List ℕ) {bytes' : 
       (call, memory ∙ after-accepted _ _ call ∙ rw back)
 
 -- The same over the contracts of the two calls.
-module _ {s : Shape} {readings bytes : List ℕ} {n : ℕ} {bytes' : List ℕ} {buffer : List ℕ} {r : ReadAnswer} {buffer' : List ℕ} where
-  pub reads_back : WriteCall s readings bytes (Written n) bytes' → ReadCall (take n bytes') buffer r buffer' → area s ≤ length buffer
-      → (r ≡ Read s) × (buffer' ≡ at_front readings buffer)
-  reads_back w i room = let back = call_reads_back w buffer i.memory room in (told_read r s (i.answer ∙ back.0), back.1)
+module _ {s : Shape} {readings bytes : List ℕ} {n : ℕ} {bytes' : List ℕ} {buffer : List ℕ} {r : Result Shape Refusal} {buffer' : List ℕ} where
+  pub reads_back : WriteCall s readings bytes (Ok n) bytes' → ReadCall (take n bytes') buffer r buffer' → area s ≤ length buffer
+      → (r ≡ Ok s) × (buffer' ≡ at_front readings buffer)
+  reads_back w i room = let back = call_reads_back w buffer i.memory room in (told_accepted r s (i.answer ∙ back.0), back.1)
 
-  pub reads_back_short : WriteCall s readings bytes (Written n) bytes' → ReadCall (take n bytes') buffer r buffer' → length buffer < area s
-      → (read_outcome r ≡ refused 7 0) × (buffer' ≡ buffer)
+  pub reads_back_short : WriteCall s readings bytes (Ok n) bytes' → ReadCall (take n bytes') buffer r buffer' → length buffer < area s
+      → (outcome r ≡ refused 7 0) × (buffer' ≡ buffer)
   reads_back_short w i room = let back = call_reads_back_short w buffer i.memory room in (i.answer ∙ back.0, back.1)
 
-module _ {b buffer buffer' : List ℕ} {s : Shape} {bytes : List ℕ} {w : WriteAnswer} {bytes' : List ℕ} where
-  pub writes_back : Bytes b → ReadCall b buffer (Read s) buffer' → mask_said b ≡ 4 → WriteCall s (take (area s) buffer') bytes w bytes'
+module _ {b buffer buffer' : List ℕ} {s : Shape} {bytes : List ℕ} {w : Result ℕ Refusal} {bytes' : List ℕ} where
+  pub writes_back : Bytes b → ReadCall b buffer (Ok s) buffer' → mask_said b ≡ 4 → WriteCall s (take (area s) buffer') bytes w bytes'
       → length b ≤ length bytes
-      → (w ≡ Written (length b)) × (bytes' ≡ at_front b bytes)
+      → (w ≡ Ok (length b)) × (bytes' ≡ at_front b bytes)
   writes_back small i four o room =
       let back = call_writes_back bytes small i four o.memory room in
-      (told-written w (length b) (o.answer ∙ back.0), back.1)
+      (told_accepted w (length b) (o.answer ∙ back.0), back.1)

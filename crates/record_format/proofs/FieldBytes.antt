@@ -1,14 +1,9 @@
 -- Bytes that hold numbers and fields at an offset: what is written there is what is read there, and back. Assumes nothing.
-use Prim.Native.Nat.{ℕ, zero, suc, ◌+◌, ◌*◌, ◌/◌, ◌%◌, ◌≤◌, ◌<◌}
-use mathlib.Core.Path.{◌≡◌, refl, ap, sym, subst, ◌∙◌}
-use mathlib.Core.List.{List, [], ◌∷◌, ◌++◌, append-nil}
-use native.Mathlib.Omega.{arith}
-use native.Mathlib.Numerals.{add-one}
-use lib.ListN.{length, get_or}
-use lib.Seq.{ext_get_or}
+use Rattle.std.proofs.Common.{ℕ, zero, suc, ◌+◌, ◌*◌, ◌/◌, ◌%◌, ◌≤◌, ◌<◌, ◌≡◌, refl, ap, sym, subst, ◌∙◌, List, [], ◌∷◌, ◌++◌, append-nil, arith, add-one, length, get_or, ext_get_or}
 use Rattle.lists.proofs.Has.{Has, has_none, has_one, has_head, has_room, has_first, has_next, has_join}
 use Rattle.record_format.specs.Layout.{number_length, length_of, body_of, numbers_length}
-use Rattle.record_format.specs.Fields.{Bytes, number, numbers, field, number_at, numbers_at}
+use Rattle.record_format.specs.declared.Tag.{Tag}
+use Rattle.record_format.specs.Fields.{Bytes, tag_byte, number, numbers, field, number_at, numbers_at}
 use Rattle.record_format.proofs.Fields.{length-number, length-numbers, numbers-append}
 use Rattle.record_format.proofs.FieldRead.{FieldAt, length-numbers_at, get_or-numbers_at, numbers_at_last}
 
@@ -34,14 +29,14 @@ has_numbers b at xs n e h =
     ext_get_or 0 (numbers_at b at n) xs (length-numbers_at b at n ∙ sym e)
     (λ k g. let i : k < n = omega (arith, length-numbers_at b at n) in get_or-numbers_at b at n k i ∙ has_number_of b at xs h k (omega arith))
 
-pub has_field : {b : List ℕ} {at : ℕ} (tag : ℕ) (body : List ℕ) (n : ℕ) → length body ≡ n → Has b at (field tag body)
+pub has_field : {b : List ℕ} {at : ℕ} (tag : Tag) (body : List ℕ) (n : ℕ) → length body ≡ n → Has b at (field tag body)
     → FieldAt b at tag n × Has b (body_of at) body
 unfolding field
 has_field {b} {at} tag body n e h =
-    let tail = has_next (tag ∷ []) (number (length body) ++ body) (length_of at) refl h in
+    let tail = has_next (tag_byte tag ∷ []) (number (length body) ++ body) (length_of at) refl h in
     let rest = has_next (number (length body)) body (body_of at) (omega (arith, length-number (length body))) tail in (
       record {
-        tag_is = has_head tag (number (length body) ++ body) 0 h;
+        tag_is = has_head (tag_byte tag) (number (length body) ++ body) 0 h;
         length-is = has_number (length body) (has_first (number (length body)) body tail) ∙ e;
         whole = omega (arith, has_room body rest);
       },
@@ -75,10 +70,10 @@ module _ (b : List ℕ) (bytes : Bytes b) where
       (has_join (numbers before) (number x) (at + numbers_length n) (omega (arith, length-numbers before, length-numbers_at b at n))
       (numbers_there at n (omega arith)) (number_there (at + numbers_length n) (omega arith)))
 
-  pub field_there : (at tag : ℕ) (body : List ℕ) → FieldAt b at tag (length body) → Has b (body_of at) body → Has b at (field tag body)
+  pub field_there : (at : ℕ) (tag : Tag) (body : List ℕ) → FieldAt b at tag (length body) → Has b (body_of at) body → Has b at (field tag body)
   unfolding field
   field_there at tag body f h =
-      has_join (tag ∷ []) (number (length body) ++ body) (length_of at) refl
+      has_join (tag_byte tag ∷ []) (number (length body) ++ body) (length_of at) refl
       (subst (λ (z : ℕ). Has b at (z ∷ [])) f.tag_is (has_one b at 0 (omega (arith, f.whole))))
       (has_join (number (length body)) body (body_of at) (omega (arith, length-number (length body)))
       (subst (λ (z : ℕ). Has b (length_of at) (number z)) f.length-is (number_there (length_of at) (omega (arith, f.whole)))) h)

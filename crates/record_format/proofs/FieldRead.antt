@@ -1,19 +1,14 @@
 -- Laws of numbers and fields as they are read. Assumes nothing.
-use Prim.Native.Nat.{ℕ, ◌+◌, ◌-◌, ◌≤◌, ◌<◌}
-use mathlib.Core.Path.{◌≡◌, sym, ◌∙◌}
-use mathlib.Core.List.{List, [], ◌∷◌, ◌++◌}
-use native.Mathlib.Omega.{arith}
+use Rattle.std.proofs.Common.{ℕ, ◌+◌, ◌-◌, ◌≤◌, ◌<◌, ◌≡◌, sym, ◌∙◌, List, [], ◌∷◌, ◌++◌, arith, zero-add, le-ltb, eq-eqb, ne_eqb, ltb-false, eqb-true, length, get_or}
 use native.Mathlib.Decide.{ℕ_discrete}
-use native.Mathlib.Nat.{zero-add}
-use borrow.Author.Tests.{le-ltb, eq-eqb, ne_eqb, ltb-false, eqb-true, not-false}
-use lib.ListN.{length, get_or}
+use borrow.Author.Tests.{not-false}
 use Rattle.lists.proofs.Tabulate.{length-tabulate, get_or-tabulate, tabulate-append}
-use Rattle.refusal.specs.declared.Verdict.{Verdict}
-use Rattle.refusal.specs.declared.Verdict.TheVariants.{Passed}
-use Rattle.refusal.specs.Outcome.{Clear, first_due, verdict}
-use Rattle.refusal.proofs.Outcome.{passed_clear}
+use Rattle.refusal.specs.Outcome.{Clear}
+use Rattle.refusal.specs.Outcome.Outcome.{accepted}
+use Rattle.refusal.proofs.Outcome.{told, passed_clear}
 use Rattle.record_format.specs.Layout.{head_length, length_of, body_of, numbers_length}
-use Rattle.record_format.specs.Fields.{number_at, numbers_at}
+use Rattle.record_format.specs.declared.Tag.{Tag}
+use Rattle.record_format.specs.Fields.{tag_byte, number_at, numbers_at}
 use Rattle.record_format.specs.Reading.{mask_said, mask_due, mask_side_in, field_rules}
 
 module _ (bytes : List ℕ) (at : ℕ) where
@@ -31,31 +26,31 @@ module _ (bytes : List ℕ) (at : ℕ) where
   numbers_at_last n = sym (tabulate-append (λ k. number_at bytes (at + numbers_length k)) 0 n 1) ∙ rw zero-add
 
 -- A field stands at an offset, with its tag, its length and all of its body: exactly then its tests are clear.
-pub record FieldAt (bytes : List ℕ) (at tag due : ℕ) : Type 0 where
-  pub tag_is : get_or bytes at 0 ≡ tag
+pub record FieldAt (bytes : List ℕ) (at : ℕ) (tag : Tag) (due : ℕ) : Type 0 where
+  pub tag_is : get_or bytes at 0 ≡ tag_byte tag
   pub length-is : number_at bytes (length_of at) ≡ due
   pub whole : body_of at + due ≤ length bytes
 
-module _ (bytes : List ℕ) (at tag due : ℕ) where
+module _ (bytes : List ℕ) (at : ℕ) (tag : Tag) (due : ℕ) where
   pub field_clear : Clear (field_rules bytes at tag due) → FieldAt bytes at tag due
   field_clear k =
       let three = ltb-false (length bytes - at) head_length k.0 in
       let body = ltb-false (length bytes - body_of at) due k.1.1.1.0 in
       record {
-        tag_is = eqb-true _ tag (not-false _ k.1.0);
+        tag_is = eqb-true _ (tag_byte tag) (not-false _ k.1.0);
         length-is = eqb-true _ due (not-false _ k.1.1.0);
         whole = omega arith;
       }
 
-  -- as a verdict says it
-  pub field-passed : {r : Verdict} → verdict r ≡ first_due (field_rules bytes at tag due) tt → r ≡ Passed → FieldAt bytes at tag due
-  field-passed said e = field_clear (passed_clear (field_rules bytes at tag due) said e)
+  -- as an answer says it
+  pub field-passed : {u : Unit {0}} → accepted u ≡ told (field_rules bytes at tag due) → FieldAt bytes at tag due
+  field-passed said = field_clear (passed_clear (field_rules bytes at tag due) said)
 
   pub clear_field : FieldAt bytes at tag due → Clear (field_rules bytes at tag due)
   clear_field f = (
     le-ltb (length bytes - at) head_length (omega (arith, f.whole)),
     (
-      rw (eq-eqb (get_or bytes at 0) tag f.tag_is),
+      rw (eq-eqb (get_or bytes at 0) (tag_byte tag) f.tag_is),
       (rw (eq-eqb (number_at bytes (length_of at)) due f.length-is), (le-ltb (length bytes - body_of at) due (omega (arith, f.whole)), tt)),
     ),
   )

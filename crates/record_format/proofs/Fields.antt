@@ -1,16 +1,12 @@
 -- Laws of numbers and fields as they are written. Assumes nothing.
-use Prim.Native.Nat.{ℕ, ◌+◌, ◌*◌, ◌≤◌, ◌<◌}
-use mathlib.Core.Path.{◌≡◌, refl, ap}
-use mathlib.Core.List.{List, [], ◌∷◌, ◌++◌, append_assoc, append-nil}
-use native.Mathlib.Omega.{arith}
-use native.Mathlib.Numerals.{add-one}
-use lib.ListN.{length, take, get_or, length-append, length-take, length-drop}
-use lib.Seq.{take-suc}
+use Rattle.std.proofs.Common.{ℕ, ◌+◌, ◌*◌, ◌≤◌, ◌<◌, ◌≡◌, refl, ap, List, [], ◌∷◌, ◌++◌, append_assoc, append-nil, arith, add-one, length, take, get_or, length-append, length-take, length-drop, take-suc}
 use Rattle.lists.specs.Joined.{joined}
 use Rattle.lists.proofs.Joined.{length-joined}
 use Rattle.lists.proofs.Parts.{part_end}
 use Rattle.record_format.specs.Layout.{number_length, head_length, numbers_length, field_length}
-use Rattle.record_format.specs.Fields.{row_tag, end_tag, number, numbers, field}
+use Rattle.record_format.specs.declared.Tag.{Tag}
+use Rattle.record_format.specs.declared.Tag.TheVariants as tags
+use Rattle.record_format.specs.Fields.{tag_byte, number, numbers, field}
 use Rattle.shape.specs.declared.Shape.{Shape}
 use Rattle.shape.specs.Rules.{area, row_of}
 use Rattle.record_format.specs.Record.{row_field, record_bytes, record_length}
@@ -35,11 +31,11 @@ unfolding numbers
 numbers_last xs k h = rw (add-one k, take-suc xs k 0 h, numbers-append) (ap (λ (l : List ℕ). numbers (take k xs) ++ l) (append-nil _))
 
 -- a field is its tag and length, and its body
-pub field_is : (tag : ℕ) (body : List ℕ) (n : ℕ) → length body ≡ n → (tag ∷ number n) ++ body ≡ field tag body
+pub field_is : (tag : Tag) (body : List ℕ) (n : ℕ) → length body ≡ n → (tag_byte tag ∷ number n) ++ body ≡ field tag body
 unfolding field
 field_is tag body n e = rw e
 
-pub length-field : (tag : ℕ) (body : List ℕ) → length (field tag body) ≡ head_length + length body
+pub length-field : (tag : Tag) (body : List ℕ) → length (field tag body) ≡ head_length + length body
 unfolding field number
 length-field tag body = omega arith
 
@@ -49,7 +45,7 @@ module _ (n : ℕ) (readings : List ℕ) where
   length_row i m h e = simp (length-take, length-drop) (omega (arith, part_end i m n h))
 
   pub length-row_field : (i m : ℕ) → i < m → length readings ≡ m * n → length (row_field n readings i) ≡ field_length n
-  length-row_field i m h e = omega (arith, length-field row_tag (numbers (row_of n readings i)), length-numbers (row_of n readings i), length_row i m h e)
+  length-row_field i m h e = omega (arith, length-field tags.Row (numbers (row_of n readings i)), length-numbers (row_of n readings i), length_row i m h e)
 
   -- the fields of the first i rows
   pub length_row_fields : (i m : ℕ) → i ≤ m → length readings ≡ m * n → length (joined (row_field n readings) 0 i) ≡ i * field_length n
@@ -65,4 +61,4 @@ pub length_record : (s : Shape) (readings : List ℕ) → length readings ≡ ar
 unfolding record_bytes record_length field numbers number
 length_record s readings e =
     let rows = joined (row_field s.columns readings) 0 s.rows in
-    omega (arith, length-append rows (field end_tag []), length_row_fields s.columns readings s.rows s.rows (omega arith) e)
+    omega (arith, length-append rows (field tags.End []), length_row_fields s.columns readings s.rows s.rows (omega arith) e)

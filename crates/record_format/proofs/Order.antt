@@ -1,9 +1,6 @@
 -- "Filter, writer and drift test in rising order of number" (document 01): the writer. Of the reader, which goes
 -- field by field, that no rule has the number 0. Assumes nothing.
-use Prim.Native.Nat.{ℕ, ◌<◌}
-use mathlib.Core.Path.{◌≡◌}
-use mathlib.Core.List.{List, ◌++◌}
-use borrow.Author.Rules.{rules}
+use Rattle.std.proofs.Common.{ℕ, ◌<◌, ◌≡◌, List, ◌++◌, rules}
 use Rattle.lists.specs.Joined.{joined}
 use Rattle.lists.proofs.Members.{each_append}
 use Rattle.lists.proofs.Joined.{each_of_joined}

@@ -1,13 +1,6 @@
 -- What it says of bytes that the reader's tests are clear, and back. The list of tests is split into those of each field, and these into the
 -- four of the field and those of its values; `FieldAt` and `RowIn` say what each of these parts means. Assumes nothing.
-use Prim.Native.Nat.{ℕ, zero, suc, ◌+◌, ◌*◌, ◌≤◌, ◌<◌}
-use mathlib.Core.Path.{◌≡◌}
-use mathlib.Core.Bool.{true, false}
-use mathlib.Core.List.{List, [], ◌∷◌, ◌++◌}
-use native.Mathlib.Omega.{arith}
-use native.Mathlib.Numerals.{add-one}
-use borrow.Author.Tests.{le-ltb, ltb-false}
-use lib.ListN.{length}
+use Rattle.std.proofs.Common.{ℕ, zero, suc, ◌+◌, ◌*◌, ◌≤◌, ◌<◌, ◌≡◌, true, false, List, [], ◌∷◌, ◌++◌, arith, add-one, le-ltb, ltb-false, length}
 use Rattle.lists.specs.First.{first_bad}
 use Rattle.lists.specs.Joined.{joined}
 use Rattle.lists.proofs.First.{all_good, good_all}
@@ -19,7 +12,7 @@ use Rattle.cycle.specs.Calls.{cycle_rules, reading_rule}
 use Rattle.cycle.specs.Silence.{is_reading}
 use Rattle.shape.specs.Rules.{size_rules, mask_rules, shape_rules, area, buffer_rule}
 use Rattle.record_format.specs.Layout.{body_of, cycle_field_at, size_field_at, mask_field_at, numbers_length, field_length}
-use Rattle.record_format.specs.Fields.{cycle_tag, size_tag, mask_tag, row_tag, end_tag}
+use Rattle.record_format.specs.declared.Tag.TheVariants as tags
 use Rattle.record_format.specs.Reading.{cycle_in, rows_in, columns_in, mask_due, shape_in, row_at, end_at, row_in, image_in, placed_after, field_rules}
 use Rattle.record_format.specs.Reading.{cycle_field_rules, size_field_rules, mask_value_rules, mask_field_rules, row_field_rules, trailing_rule}
 use Rattle.record_format.specs.Reading.{end_field_rules, body_rules, read_rules}
@@ -30,7 +23,7 @@ Quiet r = r.due ≡ false
 
 -- row i stands at its offset, and its readings are good
 pub record RowIn (bytes : List ℕ) (i : ℕ) : Type 0 where
-  pub field : FieldAt bytes (row_at bytes i) row_tag (numbers_length (columns_in bytes))
+  pub field : FieldAt bytes (row_at bytes i) tags.Row (numbers_length (columns_in bytes))
   pub good : length (row_in bytes i) ≤ first_bad (is_reading (cycle_in bytes)) (row_in bytes i)
 
 module _ (bytes : List ℕ) where
@@ -50,16 +43,16 @@ module _ (bytes : List ℕ) where
   unfolding row_field_rules
   row_clear i k =
       record {
-        field = field_clear bytes (row_at bytes i) row_tag (numbers_length (columns_in bytes)) (k.0, (k.1.0, (k.1.1.0, (k.1.1.1.0, tt))));
+        field = field_clear bytes (row_at bytes i) tags.Row (numbers_length (columns_in bytes)) (k.0, (k.1.0, (k.1.1.0, (k.1.1.1.0, tt))));
         good = ltb-false (first_bad (is_reading (cycle_in bytes)) (row_in bytes i)) (length (row_in bytes i)) k.1.1.1.1.0;
       }
 
   pub clear_row : (i : ℕ) → RowIn bytes i → Clear (row_field_rules bytes i)
   unfolding row_field_rules
   clear_row i r =
-      clear_join (field_rules bytes (row_at bytes i) row_tag (numbers_length (columns_in bytes)))
+      clear_join (field_rules bytes (row_at bytes i) tags.Row (numbers_length (columns_in bytes)))
       (placed_after (i * columns_in bytes) (reading_rule (cycle_in bytes) (row_in bytes i)) ∷ [])
-      (clear_field bytes (row_at bytes i) row_tag (numbers_length (columns_in bytes)) r.field)
+      (clear_field bytes (row_at bytes i) tags.Row (numbers_length (columns_in bytes)) r.field)
       (le-ltb (first_bad (is_reading (cycle_in bytes)) (row_in bytes i)) (length (row_in bytes i)) r.good, tt)
 
   -- the row fields lie within the bytes
@@ -70,13 +63,13 @@ module _ (bytes : List ℕ) where
       rw (← (add-one m)) (omega (arith, row_next m, last.field.whole))
 
 pub record Readable (bytes : List ℕ) (room : ℕ) : Type 0 where
-  pub cycle : FieldAt bytes cycle_field_at cycle_tag (numbers_length 1)
-  pub size : FieldAt bytes size_field_at size_tag (numbers_length 2)
-  pub mask : FieldAt bytes mask_field_at mask_tag (mask_due bytes)
+  pub cycle : FieldAt bytes cycle_field_at tags.Cycle (numbers_length 1)
+  pub size : FieldAt bytes size_field_at tags.Size (numbers_length 2)
+  pub mask : FieldAt bytes mask_field_at tags.Mask (mask_due bytes)
   pub shape : Clear (shape_rules longest_cycle (shape_in bytes))
   pub buffer : area (shape_in bytes) ≤ room
   pub rows : (i : ℕ) → i < rows_in bytes → RowIn bytes i
-  pub end : FieldAt bytes (end_at bytes) end_tag 0
+  pub end : FieldAt bytes (end_at bytes) tags.End 0
   pub last : length bytes ≤ body_of (end_at bytes)
 
 module _ (bytes : List ℕ) (room : ℕ) where
@@ -87,24 +80,24 @@ module _ (bytes : List ℕ) (room : ℕ) where
       let two = clear_split (size_field_rules bytes) (mask_field_rules bytes room ++ body_rules bytes) one.1 in
       let three = clear_split (mask_field_rules bytes room) (body_rules bytes) two.1 in
       let four = clear_split (joined (row_field_rules bytes) 0 (rows_in bytes)) (end_field_rules bytes) three.1 in
-      let cycle = clear_split (field_rules bytes cycle_field_at cycle_tag (numbers_length 1)) (cycle_rules longest_cycle (cycle_in bytes)) one.0 in
-      let size = clear_split (field_rules bytes size_field_at size_tag (numbers_length 2)) (size_rules (rows_in bytes) (columns_in bytes)) two.0 in
-      let mask = clear_split (field_rules bytes mask_field_at mask_tag (mask_due bytes)) (mask_value_rules (shape_in bytes) room) three.0 in
+      let cycle = clear_split (field_rules bytes cycle_field_at tags.Cycle (numbers_length 1)) (cycle_rules longest_cycle (cycle_in bytes)) one.0 in
+      let size = clear_split (field_rules bytes size_field_at tags.Size (numbers_length 2)) (size_rules (rows_in bytes) (columns_in bytes)) two.0 in
+      let mask = clear_split (field_rules bytes mask_field_at tags.Mask (mask_due bytes)) (mask_value_rules (shape_in bytes) room) three.0 in
       let s = shape_in bytes in
       let sides = mask_rules s.mask_rows s.mask_columns in
       let buffer : List Rule = buffer_rule (area s) room ∷ [] in
       let trailing : List Rule = trailing_rule bytes (body_of (end_at bytes)) ∷ [] in
       let values = clear_split sides buffer mask.1 in
-      let end = clear_split (field_rules bytes (end_at bytes) end_tag 0) trailing four.1 in
+      let end = clear_split (field_rules bytes (end_at bytes) tags.End 0) trailing four.1 in
       record {
-        cycle = field_clear bytes cycle_field_at cycle_tag (numbers_length 1) cycle.0;
-        size = field_clear bytes size_field_at size_tag (numbers_length 2) size.0;
-        mask = field_clear bytes mask_field_at mask_tag (mask_due bytes) mask.0;
+        cycle = field_clear bytes cycle_field_at tags.Cycle (numbers_length 1) cycle.0;
+        size = field_clear bytes size_field_at tags.Size (numbers_length 2) size.0;
+        mask = field_clear bytes mask_field_at tags.Mask (mask_due bytes) mask.0;
         shape = clear_join (cycle_rules longest_cycle s.cycle) (size_rules s.rows s.columns ++ sides) cycle.1
             (clear_join (size_rules s.rows s.columns) sides size.1 values.0);
         buffer = ltb-false room (area s) values.1.0;
         rows = λ i h. row_clear bytes i (each_in_joined (row_field_rules bytes) Quiet 0 (rows_in bytes) four.0 i (omega arith) (omega arith));
-        end = field_clear bytes (end_at bytes) end_tag 0 end.0;
+        end = field_clear bytes (end_at bytes) tags.End 0 end.0;
         last = ltb-false (body_of (end_at bytes)) (length bytes) end.1.0;
       }
 
@@ -119,17 +112,17 @@ module _ (bytes : List ℕ) (room : ℕ) where
       let trailing : List Rule = trailing_rule bytes (body_of (end_at bytes)) ∷ [] in
       let rows = each_of_joined (row_field_rules bytes) Quiet 0 (rows_in bytes) (λ k h g. clear_row bytes k (r.rows k (omega arith))) in
       clear_join (cycle_field_rules bytes) (size_field_rules bytes ++ (mask_field_rules bytes room ++ body_rules bytes))
-      (clear_join (field_rules bytes cycle_field_at cycle_tag (numbers_length 1)) (cycle_rules longest_cycle s.cycle)
-      (clear_field bytes cycle_field_at cycle_tag (numbers_length 1) r.cycle) one.0)
+      (clear_join (field_rules bytes cycle_field_at tags.Cycle (numbers_length 1)) (cycle_rules longest_cycle s.cycle)
+      (clear_field bytes cycle_field_at tags.Cycle (numbers_length 1) r.cycle) one.0)
       (clear_join (size_field_rules bytes) (mask_field_rules bytes room ++ body_rules bytes)
-      (clear_join (field_rules bytes size_field_at size_tag (numbers_length 2)) (size_rules s.rows s.columns)
-      (clear_field bytes size_field_at size_tag (numbers_length 2) r.size) two.0)
+      (clear_join (field_rules bytes size_field_at tags.Size (numbers_length 2)) (size_rules s.rows s.columns)
+      (clear_field bytes size_field_at tags.Size (numbers_length 2) r.size) two.0)
       (clear_join (mask_field_rules bytes room) (body_rules bytes)
-      (clear_join (field_rules bytes mask_field_at mask_tag (mask_due bytes)) (mask_value_rules s room)
-      (clear_field bytes mask_field_at mask_tag (mask_due bytes) r.mask)
+      (clear_join (field_rules bytes mask_field_at tags.Mask (mask_due bytes)) (mask_value_rules s room)
+      (clear_field bytes mask_field_at tags.Mask (mask_due bytes) r.mask)
       (clear_join sides buffer two.1 (le-ltb room (area s) r.buffer, tt)))
       (clear_join (joined (row_field_rules bytes) 0 (rows_in bytes)) (end_field_rules bytes) rows
-      (clear_join (field_rules bytes (end_at bytes) end_tag 0) trailing (clear_field bytes (end_at bytes) end_tag 0 r.end)
+      (clear_join (field_rules bytes (end_at bytes) tags.End 0) trailing (clear_field bytes (end_at bytes) tags.End 0 r.end)
       (le-ltb (body_of (end_at bytes)) (length bytes) r.last, tt)))))
 
   -- all readings of such a record are good

@@ -1,12 +1,6 @@
 -- A record that was read, with four bytes in its mask field, is written again as it was. It goes by the fields: the bytes hold each field that
 -- would be written, one after the other, and end with the last. Assumes nothing.
-use Prim.Native.Nat.{ℕ, ◌+◌, ◌*◌, ◌≤◌, ◌<◌}
-use mathlib.Core.Path.{◌≡◌, refl, ap, sym, ◌∙◌}
-use mathlib.Core.List.{List, [], ◌∷◌, ◌++◌}
-use native.Mathlib.Omega.{arith}
-use native.Mathlib.Nat.{zero-add}
-use borrow.Author.Tests.{eq-eqb, le-ltb}
-use lib.ListN.{length}
+use Rattle.std.proofs.Common.{ℕ, ◌+◌, ◌*◌, ◌≤◌, ◌<◌, ◌≡◌, refl, ap, sym, ◌∙◌, List, [], ◌∷◌, ◌++◌, arith, zero-add, eq-eqb, le-ltb, length}
 use Rattle.lists.specs.First.{first_bad}
 use Rattle.lists.specs.Joined.{joined}
 use Rattle.lists.proofs.Has.{Has, has_whole, has_taken, has_join, has_none, has_all, has_part, parts_hold}
@@ -17,7 +11,9 @@ use Rattle.cycle.specs.Silence.{is_reading}
 use Rattle.shape.specs.Rules.{shape_rules, area, row_of}
 use Rattle.record_format.specs.Layout.{body_of, cycle_field_at, size_field_at, mask_field_at, mask_rows_at, mask_columns_at, row_fields_at, numbers_length}
 use Rattle.record_format.specs.Layout.{field_length}
-use Rattle.record_format.specs.Fields.{Bytes, cycle_tag, size_tag, mask_tag, row_tag, end_tag, number, numbers, field, number_at, numbers_at}
+use Rattle.record_format.specs.declared.Tag.{Tag}
+use Rattle.record_format.specs.declared.Tag.TheVariants as tags
+use Rattle.record_format.specs.Fields.{Bytes, number, numbers, field, number_at, numbers_at}
 use Rattle.record_format.specs.Record.{row_field, record_bytes, record_length, call_rules, write_rules, write_due}
 use Rattle.record_format.specs.Reading.{default_mask_rows, default_mask_columns, cycle_in, rows_in, columns_in, mask_said, mask_due, mask_side_in}
 use Rattle.record_format.specs.Reading.{mask_rows_in, mask_columns_in, shape_in, row_at, end_at, row_in, image_in}
@@ -34,24 +30,24 @@ module _ (b : List ℕ) (small : Bytes b) (room : ℕ) (r : Readable b room) (fo
   mask_side = side_given b (λ e. omega (arith, four))
 
   -- a field of n numbers
-  numbers-field : (at tag n : ℕ) → FieldAt b at tag (numbers_length n) → Has b at (field tag (numbers (numbers_at b (body_of at) n)))
+  numbers-field : (at : ℕ) (tag : Tag) (n : ℕ) → FieldAt b at tag (numbers_length n) → Has b at (field tag (numbers (numbers_at b (body_of at) n)))
   numbers-field at tag n f =
       let xs = numbers_at b (body_of at) n in
       let e : numbers_length n ≡ length (numbers xs) = omega (arith, length-numbers xs, length-numbers_at b (body_of at) n) in
       field_there b small at tag (numbers xs) (rw (← e) f) (numbers_there b small (body_of at) n (omega (arith, f.whole)))
 
-  has_cycle : Has b cycle_field_at (field cycle_tag (numbers (cycle_in b ∷ [])))
+  has_cycle : Has b cycle_field_at (field tags.Cycle (numbers (cycle_in b ∷ [])))
   unfolding numbers_at
-  has_cycle = numbers-field cycle_field_at cycle_tag 1 r.cycle
+  has_cycle = numbers-field cycle_field_at tags.Cycle 1 r.cycle
 
-  has_size : Has b size_field_at (field size_tag (numbers (rows_in b ∷ columns_in b ∷ [])))
+  has_size : Has b size_field_at (field tags.Size (numbers (rows_in b ∷ columns_in b ∷ [])))
   unfolding numbers_at
-  has_size = numbers-field size_field_at size_tag 2 r.size
+  has_size = numbers-field size_field_at tags.Size 2 r.size
 
-  has_mask : Has b mask_field_at (field mask_tag (numbers (mask_rows_in b ∷ mask_columns_in b ∷ [])))
+  has_mask : Has b mask_field_at (field tags.Mask (numbers (mask_rows_in b ∷ mask_columns_in b ∷ [])))
   unfolding numbers_at
   has_mask = rw (mask_side mask_rows_at default_mask_rows, mask_side mask_columns_at default_mask_columns)
-      (numbers-field mask_field_at mask_tag 2 (rw (mask-due) at r.mask))
+      (numbers-field mask_field_at tags.Mask 2 (rw (mask-due) at r.mask))
 
   -- row i of the image that was read
   row_is : (i : ℕ) → i < rows_in b → row_of (columns_in b) (image_in b) i ≡ row_in b i
@@ -67,15 +63,15 @@ module _ (b : List ℕ) (small : Bytes b) (room : ℕ) (r : Readable b room) (fo
 
   has_row : (i : ℕ) → i < rows_in b → Has b (row_fields_at + i * field_length (columns_in b)) (row_field (columns_in b) (image_in b) i)
   unfolding row_in
-  has_row i h = rw (row_is i h, ← (row-at i)) (numbers-field (row_at b i) row_tag (columns_in b) (r.rows i h).field)
+  has_row i h = rw (row_is i h, ← (row-at i)) (numbers-field (row_at b i) tags.Row (columns_in b) (r.rows i h).field)
 
   has_rows : Has b row_fields_at (joined (row_field (columns_in b) (image_in b)) 0 (rows_in b))
   has_rows =
       parts_hold b (row_field (columns_in b) (image_in b)) (field_length (columns_in b)) (rows_in b) row_fields_at
       (λ i h. length-row_field (columns_in b) (image_in b) i (rows_in b) h (length_image b)) (omega (arith, r.mask.whole, mask-due)) has_row
 
-  has_end : Has b (row_fields_at + rows_in b * field_length (columns_in b)) (field end_tag [])
-  has_end = rw (← (row-at (rows_in b))) (field_there b small (end_at b) end_tag [] r.end (has_none b (body_of (end_at b)) (omega (arith, r.end.whole))))
+  has_end : Has b (row_fields_at + rows_in b * field_length (columns_in b)) (field tags.End [])
+  has_end = rw (← (row-at (rows_in b))) (field_there b small (end_at b) tags.End [] r.end (has_none b (body_of (end_at b)) (omega (arith, r.end.whole))))
 
   -- the bytes
   pub length_back : record_length (shape_in b) ≡ length b
@@ -85,11 +81,11 @@ module _ (b : List ℕ) (small : Bytes b) (room : ℕ) (r : Readable b room) (fo
   pub bytes_back : record_bytes (shape_in b) (image_in b) ≡ b
   unfolding record_bytes field numbers number
   bytes_back =
-      let one : List ℕ = field cycle_tag (numbers (cycle_in b ∷ [])) in
-      let two : List ℕ = field size_tag (numbers (rows_in b ∷ columns_in b ∷ [])) in
-      let three : List ℕ = field mask_tag (numbers (mask_rows_in b ∷ mask_columns_in b ∷ [])) in
+      let one : List ℕ = field tags.Cycle (numbers (cycle_in b ∷ [])) in
+      let two : List ℕ = field tags.Size (numbers (rows_in b ∷ columns_in b ∷ [])) in
+      let three : List ℕ = field tags.Mask (numbers (mask_rows_in b ∷ mask_columns_in b ∷ [])) in
       let rows : List ℕ = joined (row_field (columns_in b) (image_in b)) 0 (rows_in b) in
-      let five : List ℕ = field end_tag [] in
+      let five : List ℕ = field tags.End [] in
       let m = length_row_fields (columns_in b) (image_in b) (rows_in b) (rows_in b) (omega arith) (length_image b) in
       let d = has_join rows five (row_fields_at + rows_in b * field_length (columns_in b)) (omega arith) has_rows has_end in
       let c = has_join three (rows ++ five) row_fields_at refl has_mask d in

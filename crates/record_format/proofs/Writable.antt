@@ -1,11 +1,6 @@
 -- What it says of the writer's arguments that its tests are clear, and back. Assumes nothing.
-use Prim.Native.Nat.{ℕ, ◌≤◌}
-use mathlib.Core.Path.{◌≡◌}
-use mathlib.Core.List.{List}
-use native.Mathlib.Omega.{arith}
-use native.Mathlib.Nat.{mul-le-mul}
-use borrow.Author.Tests.{ltb-false, eqb-true, not-false}
-use lib.ListN.{length}
+use Rattle.std.proofs.Common.{ℕ, ◌≤◌, ◌≡◌, List, arith, mul-le-mul, ltb-false, eqb-true, length}
+use borrow.Author.Tests.{not-false}
 use Rattle.lists.specs.First.{first_bad}
 use Rattle.refusal.specs.Limits.{longest_cycle, most_columns}
 use Rattle.refusal.specs.Outcome.{Clear}

@@ -1,14 +1,6 @@
 -- A record that was written reads back: its bytes are readable, and hold the shape and the readings. It goes by the fields: each stands
 -- where the layout says (`Parts`), so its tag, its length and its numbers are read as they were written. Assumes nothing.
-use Prim.Native.Nat.{ℕ, ◌+◌, ◌*◌, ◌≤◌, ◌<◌}
-use mathlib.Core.Path.{◌≡◌, refl, ap, sym, subst, ◌∙◌}
-use mathlib.Core.Bool.{true}
-use mathlib.Core.List.{List, [], ◌∷◌, ◌++◌}
-use native.Mathlib.Omega.{arith}
-use native.Mathlib.Nat.{zero-add}
-use borrow.Author.Tests.{lt-ltb}
-use lib.ListN.{length}
-use lib.Seq.{take_all}
+use Rattle.std.proofs.Common.{ℕ, ◌+◌, ◌*◌, ◌≤◌, ◌<◌, ◌≡◌, refl, ap, sym, subst, ◌∙◌, true, List, [], ◌∷◌, ◌++◌, arith, zero-add, lt-ltb, length, take_all}
 use Rattle.lists.specs.First.{first_bad}
 use Rattle.lists.specs.Members.{Each}
 use Rattle.lists.specs.Joined.{joined}
@@ -24,7 +16,8 @@ use Rattle.shape.specs.declared.Shape.{Shape}
 use Rattle.shape.specs.Rules.{shape_rules, mask_rules, buffer_rule, area, row_of}
 use Rattle.record_format.specs.Layout.{body_of, cycle_field_at, cycle_at, size_field_at, rows_at, columns_at, mask_field_at, mask_rows_at, mask_columns_at}
 use Rattle.record_format.specs.Layout.{row_fields_at, numbers_length, field_length}
-use Rattle.record_format.specs.Fields.{cycle_tag, size_tag, mask_tag, row_tag, end_tag, number, numbers, field, number_at, numbers_at}
+use Rattle.record_format.specs.declared.Tag.TheVariants as tags
+use Rattle.record_format.specs.Fields.{number, numbers, field, number_at, numbers_at}
 use Rattle.record_format.specs.Record.{row_field, record_bytes, record_length}
 use Rattle.record_format.specs.Reading.{default_mask_rows, default_mask_columns, cycle_in, rows_in, columns_in, mask_due, mask_side_in, mask_rows_in}
 use Rattle.record_format.specs.Reading.{mask_columns_in, shape_in, row_at, end_at, row_in, image_in, field_rules, cycle_field_rules, size_field_rules}
@@ -43,19 +36,19 @@ module _ (s : Shape) (readings : List ℕ) (input : length readings ≡ area s) 
 
   -- the fields, where they stand
   record Parts : Type 0 where
-    cycle : Has bytes cycle_field_at (field cycle_tag (numbers (s.cycle ∷ [])))
-    size : Has bytes size_field_at (field size_tag (numbers (s.rows ∷ s.columns ∷ [])))
-    mask : Has bytes mask_field_at (field mask_tag (numbers (s.mask_rows ∷ s.mask_columns ∷ [])))
+    cycle : Has bytes cycle_field_at (field tags.Cycle (numbers (s.cycle ∷ [])))
+    size : Has bytes size_field_at (field tags.Size (numbers (s.rows ∷ s.columns ∷ [])))
+    mask : Has bytes mask_field_at (field tags.Mask (numbers (s.mask_rows ∷ s.mask_columns ∷ [])))
     rows : Has bytes row_fields_at row_fields
-    end : Has bytes (row_fields_at + s.rows * field_length s.columns) (field end_tag [])
+    end : Has bytes (row_fields_at + s.rows * field_length s.columns) (field tags.End [])
 
   parts : Parts
   unfolding record_bytes field numbers number
   parts =
-      let one : List ℕ = field cycle_tag (numbers (s.cycle ∷ [])) in
-      let two : List ℕ = field size_tag (numbers (s.rows ∷ s.columns ∷ [])) in
-      let three : List ℕ = field mask_tag (numbers (s.mask_rows ∷ s.mask_columns ∷ [])) in
-      let five : List ℕ = field end_tag [] in
+      let one : List ℕ = field tags.Cycle (numbers (s.cycle ∷ [])) in
+      let two : List ℕ = field tags.Size (numbers (s.rows ∷ s.columns ∷ [])) in
+      let three : List ℕ = field tags.Mask (numbers (s.mask_rows ∷ s.mask_columns ∷ [])) in
+      let five : List ℕ = field tags.End [] in
       let a = has_whole bytes in
       let b = has_next one (two ++ (three ++ (row_fields ++ five))) size_field_at refl a in
       let c = has_next two (three ++ (row_fields ++ five)) mask_field_at refl b in
@@ -69,14 +62,14 @@ module _ (s : Shape) (readings : List ℕ) (input : length readings ≡ area s) 
             (omega (arith, length_row_fields s.columns readings s.rows s.rows (omega arith) input)) d;
       }
 
-  cycle_field : FieldAt bytes cycle_field_at cycle_tag (numbers_length 1) × Has bytes cycle_at (numbers (s.cycle ∷ []))
-  cycle_field = has_field cycle_tag (numbers (s.cycle ∷ [])) (numbers_length 1) (length-numbers _) parts.cycle
+  cycle_field : FieldAt bytes cycle_field_at tags.Cycle (numbers_length 1) × Has bytes cycle_at (numbers (s.cycle ∷ []))
+  cycle_field = has_field tags.Cycle (numbers (s.cycle ∷ [])) (numbers_length 1) (length-numbers _) parts.cycle
 
-  size-field : FieldAt bytes size_field_at size_tag (numbers_length 2) × Has bytes rows_at (numbers (s.rows ∷ s.columns ∷ []))
-  size-field = has_field size_tag (numbers (s.rows ∷ s.columns ∷ [])) (numbers_length 2) (length-numbers _) parts.size
+  size-field : FieldAt bytes size_field_at tags.Size (numbers_length 2) × Has bytes rows_at (numbers (s.rows ∷ s.columns ∷ []))
+  size-field = has_field tags.Size (numbers (s.rows ∷ s.columns ∷ [])) (numbers_length 2) (length-numbers _) parts.size
 
-  mask_field : FieldAt bytes mask_field_at mask_tag (numbers_length 2) × Has bytes mask_rows_at (numbers (s.mask_rows ∷ s.mask_columns ∷ []))
-  mask_field = has_field mask_tag (numbers (s.mask_rows ∷ s.mask_columns ∷ [])) (numbers_length 2) (length-numbers _) parts.mask
+  mask_field : FieldAt bytes mask_field_at tags.Mask (numbers_length 2) × Has bytes mask_rows_at (numbers (s.mask_rows ∷ s.mask_columns ∷ []))
+  mask_field = has_field tags.Mask (numbers (s.mask_rows ∷ s.mask_columns ∷ [])) (numbers_length 2) (length-numbers _) parts.mask
 
   mask-due : mask_due bytes ≡ numbers_length 2
   mask-due = due-given bytes (λ e. omega (arith, mask_field.0.length-is))
@@ -112,7 +105,7 @@ module _ (s : Shape) (readings : List ℕ) (input : length readings ≡ area s) 
   row-at i = rw (mask-due, columns_back)
 
   -- row i
-  row_field_there : (i : ℕ) → i < s.rows → FieldAt bytes (row_at bytes i) row_tag (numbers_length (columns_in bytes))
+  row_field_there : (i : ℕ) → i < s.rows → FieldAt bytes (row_at bytes i) tags.Row (numbers_length (columns_in bytes))
       × (row_in bytes i ≡ row_of s.columns readings i)
   unfolding row_in
   row_field_there i h =
@@ -120,7 +113,7 @@ module _ (s : Shape) (readings : List ℕ) (input : length readings ≡ area s) 
       let n = length_row s.columns readings i s.rows h input in
       let here = has_part bytes (row_field s.columns readings) (field_length s.columns) 0 s.rows row_fields_at i
       (λ k g j. length-row_field s.columns readings k s.rows (omega arith) input) parts.rows h in
-      let f = has_field row_tag (numbers row) (numbers_length s.columns) (omega (arith, length-numbers row)) (rw zero-add at here) in
+      let f = has_field tags.Row (numbers row) (numbers_length s.columns) (omega (arith, length-numbers row)) (rw zero-add at here) in
       rw (row-at i, columns_back) (f.0, has_numbers bytes (body_of (row_fields_at + i * field_length s.columns)) row s.columns n f.1)
 
   -- the readings
@@ -158,7 +151,7 @@ module _ (s : Shape) (readings : List ℕ) (input : length readings ≡ area s) 
       shape = subst (λ (t : Shape). Clear (shape_rules longest_cycle t)) (sym shape_back) tests;
       buffer = subst (λ (t : Shape). area t ≤ room) (sym shape_back) h;
       rows = λ i g. row_good i (omega (arith, rows_back));
-      end = rw end-at (has_field end_tag [] 0 refl parts.end).0;
+      end = rw end-at (has_field tags.End [] 0 refl parts.end).0;
       last = let e = length_record s readings input in rw end-at (omega arith);
     }
 
@@ -175,7 +168,7 @@ module _ (s : Shape) (readings : List ℕ) (input : length readings ≡ area s) 
         let before : List Rule =
         cycle_field_rules bytes
         ++ (size_field_rules bytes
-        ++ (field_rules bytes mask_field_at mask_tag (mask_due bytes)
+        ++ (field_rules bytes mask_field_at tags.Mask (mask_due bytes)
         ++ mask_rules t.mask_rows t.mask_columns)) in
         let enough = clear_readable bytes (area s) (written_readable (area s) (omega arith)) in
         let clear = (clear_split before (buffer_rule (area t) (area s) ∷ body_rules bytes) enough).0 in

@@ -7,20 +7,21 @@ use Rattle.cycle.specs.Calls.{reading_rule}
 use Rattle.shape.specs.declared.Shape.{Shape}
 use Rattle.shape.specs.Rules.{shape_rules, area, row_of, input_rule, buffer_rule}
 use Rattle.record_format.specs.Layout.{head_length, field_length, row_fields_at}
-use Rattle.record_format.specs.Fields.{cycle_tag, size_tag, mask_tag, row_tag, end_tag, numbers, field}
+use Rattle.record_format.specs.declared.Tag.TheVariants as tags
+use Rattle.record_format.specs.Fields.{numbers, field}
 
 -- "04, length 2N: one row of readings"
 abbrev pub row_field : ℕ → List ℕ → ℕ → List ℕ
-row_field n readings i = field row_tag (numbers (row_of n readings i))
+row_field n readings i = field tags.Row (numbers (row_of n readings i))
 
 -- "In order": 01 with C, 02 with M and N, 03 with R and T, M fields 04, FF
 unfoldable pub record_bytes : Shape → List ℕ → List ℕ
 record_bytes s readings =
-    field cycle_tag (numbers (s.cycle ∷ []))
-    ++ (field size_tag (numbers (s.rows ∷ s.columns ∷ []))
-    ++ (field mask_tag (numbers (s.mask_rows ∷ s.mask_columns ∷ []))
+    field tags.Cycle (numbers (s.cycle ∷ []))
+    ++ (field tags.Size (numbers (s.rows ∷ s.columns ∷ []))
+    ++ (field tags.Mask (numbers (s.mask_rows ∷ s.mask_columns ∷ []))
     ++ (joined (row_field s.columns readings) 0 s.rows
-    ++ field end_tag [])))
+    ++ field tags.End [])))
 
 -- "Its length, which the writer returns, is 22 + M·(3 + 2N)": fields 01 to 03, M fields 04, FF
 unfoldable pub record_length : Shape → ℕ

@@ -1,109 +1,105 @@
 // The tests of a record's row fields and of its end field.
-ghost use Rattle.std.specs.Prelude.{◌≡◌, [], ◌∷◌, ◌+◌, ◌≤◌, length};
-ghost use Rattle.lists.specs.First.{first_bad};
+ghost use Rattle.std.specs.Prelude.{◌≡◌, [], ◌∷◌, ◌+◌, ◌*◌, ◌≤◌, ◌<◌, length};
 ghost use Rattle.lists.specs.Joined.{joined};
-ghost use Rattle.refusal.specs.Outcome.{first_due, verdict};
-ghost use Rattle.cycle.specs.Silence.{is_reading};
-ghost use Rattle.record_format.specs.Layout.{numbers_length};
-ghost use Rattle.record_format.specs.Fields.{numbers_at};
-ghost use Rattle.record_format.specs.Reading.{rows_in, shape_in, row_at, end_at};
-ghost use Rattle.record_format.specs.Reading.{row_field_rules, trailing_rule, end_field_rules, body_rules};
-ghost use Rattle.record_read.specs.Stages.{Headed, RowAt};
+ghost use Rattle.refusal.specs.Outcome.{first_due, outcome};
+ghost use Rattle.cycle.specs.Calls.{reading_rule};
+ghost use Rattle.record_format.specs.Layout.{field_length};
+ghost use Rattle.record_format.specs.Reading.{cycle_in, rows_in, columns_in, shape_in, row_at, row_in, placed_after};
+ghost use Rattle.record_format.specs.Reading.{row_field_rules, end_field_rules, body_rules};
+ghost use Rattle.record_read.specs.Stages.{Headed};
 
-use crate::head::{field_verdict, mask_due};
+use crate::field::check_field;
+use crate::head::mask_due;
 use cycle::next_of;
 use record_format::layout::{HEAD_LENGTH, MASK_ROWS_AT, NUMBER_LENGTH};
-use record_format::{END_TAG, ROW_TAG, number_at};
-use refusal::{Refusal, Verdict, first_of};
+use record_format::{Tag, number_at};
+use refusal::{Refusal, refuse_if};
 use shape::Shape;
 
-// The index of the first of n readings at an offset that is none, or n.
-fn first_bad(bytes: &[u8], at: usize, n: usize, cycle: u32) -> usize
-    requires { at + numbers_length n ≤ length bytes.now }
-    ensures { result ≡ first_bad (is_reading cycle) (numbers_at bytes.now at n) }
-{
-    let mut k: usize = 0;
-    while k < n {
-        if cycle < next_of(number_at(bytes, at + NUMBER_LENGTH * k)) as u32 {
-            return k;
-        }
-        k += 1;
-    }
-    k
+// A record whose first three fields have passed their tests, and the shape that they hold.
+#[derive(Clone, Copy)]
+pub struct Record<'a> {
+    pub bytes: &'a [u8],
+    pub shape: Shape,
+    ghost shape_is: { shape ≡ shape_in bytes.now },
+    ghost headed: { Headed bytes.now },
 }
 
-// The field of row i, at an offset.
-fn row_field_verdict(bytes: &[u8], at: usize, i: usize, columns: usize, cycle: u32) -> Verdict
-    requires { RowAt bytes.now at i columns cycle }
-    ensures { verdict result ≡ first_due (row_field_rules bytes.now i) tt }
-{
-    match field_verdict(bytes, at, ROW_TAG, NUMBER_LENGTH * columns) {
-        Verdict::Refused(f) => Verdict::Refused(f),
-        Verdict::Passed => {
-            let k = first_bad(bytes, at + HEAD_LENGTH, columns, cycle);
-            if k < columns {
-                return Verdict::Refused(Refusal::Reading(i * columns + k));
-            }
-            Verdict::Passed
-        }
+impl Record<'_> {
+    pub fn rows(&self) -> usize
+        ensures { result ≡ rows_in self.now.bytes.now }
+    {
+        self.shape.rows as usize
     }
-}
 
-// The fields of all rows.
-fn rows_verdict(bytes: &[u8], start: usize, shape: Shape) -> Verdict
-    requires { (shape ≡ shape_in bytes.now) × (start ≡ row_at bytes.now 0) × Headed bytes.now }
-    ensures { verdict result ≡ first_due (joined (row_field_rules bytes.now) 0 (rows_in bytes.now)) tt }
-{
-    let rows = shape.rows as usize;
-    let columns = shape.columns as usize;
-    let mut at = start;
-    let mut i: usize = 0;
-    while i < rows {
-        match row_field_verdict(bytes, at, i, columns, shape.cycle) {
-            Verdict::Refused(f) => {
-                return Verdict::Refused(f);
-            }
-            Verdict::Passed => {
-                at += HEAD_LENGTH + NUMBER_LENGTH * columns;
-                i += 1;
+    pub fn columns(&self) -> usize
+        ensures { result ≡ columns_in self.now.bytes.now }
+    {
+        self.shape.columns as usize
+    }
+
+    // The offset of the field of row i; that of the row after the last is the end field's.
+    #[tactic(auto, unfolding(record_format::specs::Reading::row_at))]
+    pub fn row_at(&self, i: usize) -> usize
+        requires { i ≤ rows_in self.now.bytes.now }
+        ensures { result ≡ row_at self.now.bytes.now i }
+    {
+        let length = HEAD_LENGTH + NUMBER_LENGTH * self.columns();
+        MASK_ROWS_AT + mask_due(self.bytes) + i * length
+    }
+
+    // Test 9 on the readings of row i, whose field is there.
+    fn check_readings(&self, i: usize) -> Result<(), Refusal>
+        requires row { i < rows_in self.now.bytes.now }
+        requires whole { row_at self.now.bytes.now i + field_length (columns_in self.now.bytes.now) ≤ length self.now.bytes.now }
+        ensures { let b = self.now.bytes.now in outcome result ≡ first_due (placed_after (i * columns_in b) (reading_rule (cycle_in b) (row_in b i)) ∷ []) tt }
+    {
+        let at = self.row_at(i) + HEAD_LENGTH;
+        let columns = self.columns();
+        for k in 0..columns {
+            let x = number_at(self.bytes, at + NUMBER_LENGTH * k);
+            if self.shape.cycle < next_of(x) as u32 {
+                return Err(Refusal::Reading(i * columns + k));
             }
         }
+        Ok(())
     }
-    Verdict::Passed
-}
 
-// That the bytes end at an offset.
-fn trailing_verdict(bytes: &[u8], end: usize) -> Verdict
-    ensures { verdict result ≡ first_due (trailing_rule bytes.now end ∷ []) tt }
-{
-    if end < bytes.len() {
-        return Verdict::Refused(Refusal::Trailing(end));
+    // The field of row i.
+    fn check_row(&self, i: usize) -> Result<(), Refusal>
+        requires { i < rows_in self.now.bytes.now }
+        ensures { outcome result ≡ first_due (row_field_rules self.now.bytes.now i) tt }
+    {
+        let due = NUMBER_LENGTH * self.columns();
+        check_field(self.bytes, self.row_at(i), Tag::Row, due)?;
+        self.check_readings(i)
     }
-    Verdict::Passed
-}
 
-// Field FF, and that it is the last.
-fn end_field_verdict(bytes: &[u8], at: usize) -> Verdict
-    requires { (at ≡ end_at bytes.now) × (at ≤ length bytes.now) }
-    ensures { verdict result ≡ first_due (end_field_rules bytes.now) tt }
-{
-    first_of(
-        field_verdict(bytes, at, END_TAG, 0),
-        trailing_verdict(bytes, at + HEAD_LENGTH),
-    )
-}
-
-// The fields of the rows and FF.
-pub fn body_verdict(bytes: &[u8], shape: Shape) -> Verdict
-    requires { (shape ≡ shape_in bytes.now) × Headed bytes.now }
-    ensures { verdict result ≡ first_due (body_rules bytes.now) tt }
-{
-    let start = MASK_ROWS_AT + mask_due(bytes);
-    match rows_verdict(bytes, start, shape) {
-        Verdict::Refused(f) => Verdict::Refused(f),
-        Verdict::Passed => {
-            let length = HEAD_LENGTH + NUMBER_LENGTH * shape.columns as usize;
-            end_field_verdict(bytes, start + shape.rows as usize * length)
+    // The fields of all rows.
+    fn check_rows(&self) -> Result<(), Refusal>
+        ensures { let b = self.now.bytes.now in outcome result ≡ first_due (joined (row_field_rules b) 0 (rows_in b)) tt }
+    {
+        for i in 0..self.rows() {
+            self.check_row(i)?;
         }
+        Ok(())
+    }
+
+    // Field FF, and that it is the last.
+    fn check_end(&self) -> Result<(), Refusal>
+        ensures { outcome result ≡ first_due (end_field_rules self.now.bytes.now) tt }
+    {
+        let at = self.row_at(self.rows());
+        check_field(self.bytes, at, Tag::End, 0)?;
+        let end = at + HEAD_LENGTH;
+        refuse_if(end < self.bytes.len(), Refusal::Trailing(end))
+    }
+
+    // The fields of the rows and FF.
+    pub fn check_body(&self) -> Result<(), Refusal>
+        ensures { outcome result ≡ first_due (body_rules self.now.bytes.now) tt }
+    {
+        self.check_rows()?;
+        self.check_end()
     }
 }

@@ -3,18 +3,9 @@
 #![tactic(auto)]
 
 mod body;
+mod field;
 mod head;
 mod stores;
 
-pub use body::body_verdict;
-pub use head::head_answer;
-use refusal::Refusal;
-use shape::Shape;
-pub use stores::store_rows;
-
-// What the tests of the first three fields find: the five numbers that these hold, or the first refusal that is due.
-#[derive(Clone, Copy)]
-pub enum HeadAnswer {
-    Headed(Shape),
-    Refused(Refusal),
-}
+pub use body::Record;
+pub use head::check_head;

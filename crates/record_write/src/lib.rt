@@ -1,139 +1,108 @@
 // The writer's tests, and the bytes that it writes. Internal: each `requires` is met by the tests before.
 #![tactic(auto)]
 
-ghost use Rattle.std.specs.Prelude.{◌≡◌, [], ◌∷◌, ◌+◌, ◌*◌, ◌≤◌, ◌<◌, length};
+ghost use Rattle.std.specs.Prelude.{◌≡◌, ◌+◌, ◌*◌, ◌≤◌, length};
 ghost use Rattle.std.proofs.lemmas.List.Edits.{sets};
 ghost use Rattle.lists.specs.Joined.{joined};
-ghost use Rattle.refusal.specs.Limits.{longest_cycle, most_columns};
-ghost use Rattle.refusal.specs.Outcome.{first_due, verdict, Clear};
+ghost use Rattle.refusal.specs.Limits.{longest_cycle, most_rows, most_columns};
+ghost use Rattle.refusal.specs.Outcome.{Clear, first_due, outcome};
 ghost use Rattle.shape.specs.Rules.{shape_rules};
-ghost use Rattle.record_format.specs.Layout.{head_length, numbers_length, field_length, row_fields_at};
-ghost use Rattle.record_format.specs.Fields.{number, numbers, field, row_tag};
-ghost use Rattle.record_format.specs.Record.{row_field, record_bytes, record_length, call_rules, write_rules};
+ghost use Rattle.record_format.specs.Layout.{numbers_length, field_length, row_fields_at};
+ghost use Rattle.record_format.specs.Fields.{numbers, field};
+ghost use Rattle.record_format.specs.Record.{row_field, record_bytes, record_length, write_rules};
 
-use cycle::reading_verdict;
+use cycle::check_readings;
 use record_format::layout::{
     CYCLE_FIELD_AT, HEAD_LENGTH, MASK_FIELD_AT, NUMBER_LENGTH, ROW_FIELDS_AT, SIZE_FIELD_AT,
     TAG_LENGTH,
 };
-use record_format::{CYCLE_TAG, END_TAG, MASK_TAG, ROW_TAG, SIZE_TAG, put_number};
+use record_format::{Tag, put_number};
+use refusal::Refusal;
 use refusal::limits::LONGEST_CYCLE;
-use refusal::{Verdict, first_of};
-use shape::{Shape, area_of, buffer_verdict, input_verdict, shape_verdict};
+use shape::{Shape, check_buffer, check_input};
+
+// The offset of the field of row i, with so many readings in a row; that of the row after the last is the end
+// field's.
+fn row_at(columns: usize, i: usize) -> usize
+    requires short { columns ≤ most_columns }
+    requires few { i ≤ most_rows }
+    ensures { result ≡ row_fields_at + i * field_length columns }
+{
+    ROW_FIELDS_AT + i * (HEAD_LENGTH + NUMBER_LENGTH * columns)
+}
 
 // The length of a record whose shape has passed its tests.
 fn length_of(shape: Shape) -> usize
     requires { Clear (shape_rules longest_cycle shape) }
     ensures { result ≡ record_length shape }
 {
-    let row = HEAD_LENGTH + NUMBER_LENGTH * (shape.columns as usize);
-    ROW_FIELDS_AT + (shape.rows as usize) * row + HEAD_LENGTH
+    row_at(shape.columns as usize, shape.rows as usize) + HEAD_LENGTH
 }
 
-// Tests 6, 7 and 9, in this order.
-fn call_verdict(shape: Shape, readings: &[u16], room: usize) -> Verdict
-    requires { Clear (shape_rules longest_cycle shape) }
-    ensures { verdict result ≡ first_due (call_rules shape readings.now room) tt }
+// Tests 1 to 3, and then 6, 7 and 9.
+pub fn check_write(shape: Shape, readings: &[u16], room: usize) -> Result<(), Refusal>
+    ensures { outcome result ≡ first_due (write_rules shape readings.now room) tt }
 {
-    let input = input_verdict(area_of(shape), readings.len());
-    match first_of(input, buffer_verdict(length_of(shape), room)) {
-        Verdict::Refused(f) => Verdict::Refused(f),
-        Verdict::Passed => reading_verdict(shape.cycle, readings),
+    shape.check(LONGEST_CYCLE)?;
+    check_input(shape.area(), readings.len())?;
+    check_buffer(length_of(shape), room)?;
+    check_readings(shape.cycle, readings)
+}
+
+// Writes numbers, one after the other.
+fn put_numbers(bytes: &mut [u8], at: usize, values: &[u16])
+    requires { at + numbers_length (length values.now) ≤ length bytes.old }
+    ensures { bytes.new ≡ sets bytes.old at (numbers values.now) }
+{
+    for (k, value) in values.iter().enumerate() {
+        put_number(bytes, at + NUMBER_LENGTH * k, *value);
     }
 }
 
-// Tests 1 to 3, and then those.
-pub fn write_verdict(shape: Shape, readings: &[u16], room: usize) -> Verdict
-    ensures { verdict result ≡ first_due (write_rules shape readings.now room) tt }
+// Writes a field of numbers: its tag, the length of its body, and the numbers.
+fn put_field(bytes: &mut [u8], at: usize, tag: Tag, values: &[u16])
+    requires short { length values.now ≤ most_columns }
+    requires room { at + field_length (length values.now) ≤ length bytes.old }
+    ensures { bytes.new ≡ sets bytes.old at (field tag (numbers values.now)) }
 {
-    match shape_verdict(LONGEST_CYCLE, shape) {
-        Verdict::Refused(f) => Verdict::Refused(f),
-        Verdict::Passed => call_verdict(shape, readings, room),
+    bytes[at] = tag.byte();
+    put_number(
+        bytes,
+        at + TAG_LENGTH,
+        (NUMBER_LENGTH * values.len()) as u16,
+    );
+    put_numbers(bytes, at + HEAD_LENGTH, values);
+}
+
+// Writes the fields of all rows, after the first three fields.
+fn put_rows(bytes: &mut [u8], rows: usize, columns: usize, readings: &[u16])
+    requires few { rows ≤ most_rows }
+    requires short { columns ≤ most_columns }
+    requires input { length readings.now ≡ rows * columns }
+    requires room { row_fields_at + rows * field_length columns ≤ length bytes.old }
+    ensures { bytes.new ≡ sets bytes.old row_fields_at (joined (row_field columns readings.now) 0 rows) }
+{
+    for i in 0..rows {
+        let start = i * columns;
+        let row = &readings[start..start + columns];
+        put_field(bytes, row_at(columns, i), Tag::Row, row);
     }
-}
-
-// Writes a field's tag and the length of its body.
-fn put_head(bytes: &mut [u8], at: usize, tag: u8, body: usize)
-    requires { (at + head_length ≤ length bytes.old) × (body < 65536) }
-    ensures { bytes.new ≡ sets bytes.old at (tag ∷ number body) }
-{
-    bytes[at] = tag;
-    put_number(bytes, at + TAG_LENGTH, body as u32);
-}
-
-// Writes a field of one number.
-fn put_one(bytes: &mut [u8], at: usize, tag: u8, x: u32)
-    requires { (at + field_length 1 ≤ length bytes.old) × (x < 65536) }
-    ensures { bytes.new ≡ sets bytes.old at (field tag (numbers (x ∷ []))) }
-{
-    put_head(bytes, at, tag, NUMBER_LENGTH);
-    put_number(bytes, at + HEAD_LENGTH, x);
-}
-
-// Writes a field of two numbers.
-fn put_two(bytes: &mut [u8], at: usize, tag: u8, x: u32, y: u32)
-    requires { (at + field_length 2 ≤ length bytes.old) × (x < 65536) × (y < 65536) }
-    ensures { bytes.new ≡ sets bytes.old at (field tag (numbers (x ∷ y ∷ []))) }
-{
-    put_head(bytes, at, tag, 2 * NUMBER_LENGTH);
-    put_number(bytes, at + HEAD_LENGTH, x);
-    put_number(bytes, at + HEAD_LENGTH + NUMBER_LENGTH, y);
-}
-
-// Writes readings, one after the other.
-fn put_numbers(bytes: &mut [u8], at: usize, row: &[u16])
-    requires { at + numbers_length (length row.now) ≤ length bytes.old }
-    ensures { bytes.new ≡ sets bytes.old at (numbers row.now) }
-{
-    let mut k: usize = 0;
-    while k < row.len() {
-        put_number(bytes, at + NUMBER_LENGTH * k, row[k] as u32);
-        k += 1;
-    }
-}
-
-// Writes the field of a row.
-fn put_row(bytes: &mut [u8], at: usize, row: &[u16])
-    requires { (at + field_length (length row.now) ≤ length bytes.old) × (length row.now ≤ most_columns) }
-    ensures { bytes.new ≡ sets bytes.old at (field row_tag (numbers row.now)) }
-{
-    put_head(bytes, at, ROW_TAG, NUMBER_LENGTH * row.len());
-    put_numbers(bytes, at + HEAD_LENGTH, row);
-}
-
-// Writes the fields of all rows, after the first three fields, and returns the offset after them.
-fn put_rows(bytes: &mut [u8], rows: usize, columns: usize, readings: &[u16]) -> usize
-    requires { (length readings.now ≡ rows * columns) × (columns ≤ most_columns) × (row_fields_at + rows * field_length columns ≤ length bytes.old) }
-    ensures { (result ≡ row_fields_at + rows * field_length columns) × (bytes.new ≡ sets bytes.old row_fields_at (joined (row_field columns readings.now) 0 rows)) }
-{
-    let mut at = ROW_FIELDS_AT;
-    let mut start: usize = 0;
-    let mut i: usize = 0;
-    while i < rows {
-        let end = start + columns;
-        put_row(bytes, at, &readings[start..end]);
-        at += HEAD_LENGTH + NUMBER_LENGTH * columns;
-        start = end;
-        i += 1;
-    }
-    at
 }
 
 // Writes a record that has passed the tests, and returns its length.
 pub fn put_record(shape: Shape, readings: &[u16], bytes: &mut [u8]) -> usize
     requires { Clear (write_rules shape readings.now (length bytes.old)) }
-    ensures { (result ≡ record_length shape) × (bytes.new ≡ sets bytes.old 0 (record_bytes shape readings.now)) }
+    ensures length { result ≡ record_length shape }
+    ensures stored { bytes.new ≡ sets bytes.old 0 (record_bytes shape readings.now) }
 {
-    put_one(bytes, CYCLE_FIELD_AT, CYCLE_TAG, shape.cycle);
-    put_two(bytes, SIZE_FIELD_AT, SIZE_TAG, shape.rows, shape.columns);
-    put_two(
-        bytes,
-        MASK_FIELD_AT,
-        MASK_TAG,
-        shape.mask_rows,
-        shape.mask_columns,
-    );
-    let end = put_rows(bytes, shape.rows as usize, shape.columns as usize, readings);
-    put_head(bytes, end, END_TAG, 0);
+    let sizes = [shape.rows as u16, shape.columns as u16];
+    let mask = [shape.mask_rows as u16, shape.mask_columns as u16];
+    put_field(bytes, CYCLE_FIELD_AT, Tag::Cycle, &[shape.cycle as u16]);
+    put_field(bytes, SIZE_FIELD_AT, Tag::Size, &sizes);
+    put_field(bytes, MASK_FIELD_AT, Tag::Mask, &mask);
+    let (rows, columns) = (shape.rows as usize, shape.columns as usize);
+    put_rows(bytes, rows, columns, readings);
+    let end = row_at(columns, rows);
+    put_field(bytes, end, Tag::End, &[]);
     end + HEAD_LENGTH
 }

@@ -25,14 +25,6 @@ pub struct Shape {
 }
 
 impl Shape {
-    // Test 2.
-    pub fn check_size(self) -> Result<(), Refusal>
-        ensures { outcome result ≡ first_due (size_rules self.rows self.columns) tt }
-    {
-        check_range(self.rows as usize, MOST_ROWS as usize, Refusal::Size)?;
-        check_range(self.columns as usize, MOST_COLUMNS as usize, Refusal::Size)
-    }
-
     // Test 3.
     pub fn check_mask(self) -> Result<(), Refusal>
         ensures { outcome result ≡ first_due (mask_rules self.mask_rows self.mask_columns) tt }
@@ -46,7 +38,7 @@ impl Shape {
         ensures { outcome result ≡ first_due (shape_rules limit self) tt }
     {
         check_cycle(limit, self.cycle)?;
-        self.check_size()?;
+        check_size(self.rows, self.columns)?;
         self.check_mask()
     }
 
@@ -71,6 +63,14 @@ impl Shape {
     {
         (self.mask_rows as usize) * (self.mask_columns as usize) * (self.columns as usize + 1)
     }
+}
+
+// Test 2.
+pub fn check_size(rows: u32, columns: u32) -> Result<(), Refusal>
+    ensures { outcome result ≡ first_due (size_rules rows columns) tt }
+{
+    check_range(rows as usize, MOST_ROWS as usize, Refusal::Size)?;
+    check_range(columns as usize, MOST_COLUMNS as usize, Refusal::Size)
 }
 
 // Test 3, on one side.

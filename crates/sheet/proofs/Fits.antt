@@ -1,9 +1,5 @@
 -- Every sheet has at most 65,536 bytes, so a text memory of that size holds all of it. Assumes nothing.
-use Prim.Native.Nat.{ℕ, ◌+◌, ◌*◌, ◌≤◌}
-use mathlib.Core.Path.{◌≡◌, refl}
-use mathlib.Core.List.{List, ◌++◌}
-use native.Mathlib.Omega.{arith}
-use lib.ListN.{length, drop}
+use Rattle.std.proofs.Common.{ℕ, ◌+◌, ◌*◌, ◌≤◌, ◌≡◌, refl, sym, List, ◌++◌, arith, length, drop}
 use Rattle.lists.proofs.Tabulate.{length-tabulate}
 use Rattle.refusal.specs.Limits.{longest_cycle, most_bytes}
 use Rattle.refusal.specs.Outcome.{Outcome}
@@ -22,7 +18,7 @@ use Rattle.text.proofs.TextLaws.{laid-front}
 use Rattle.sheet_lines.specs.Lines.{most_text, image_lines}
 use Rattle.sheet_lines.proofs.Lengths.{refusal_short, lines_short}
 use Rattle.sheet.specs.declared.SheetAnswer.{SheetAnswer}
-use Rattle.sheet.specs.Sheet.{engine_for, filtered_image, filtered_due, sheet_due, sheet_text, text_length, SheetCall}
+use Rattle.sheet.specs.Sheet.{engine_for, filtered_image, filtered_due, sheet_due, sheet_text, SheetCall}
 use Rattle.sheet.proofs.Rows.{output_lines, output-phases}
 use Rattle.sheet.proofs.Calls.{sheet_accepted}
 
@@ -54,21 +50,21 @@ sheet_fits bytes readings output work = go (sheet_due bytes readings output work
   where
     go : (o : Outcome Shape) → sheet_due bytes readings output work ≡ o → length (sheet_text o (image_in bytes)) ≤ most_text
     go (accepted s) said =
-        let a = sheet_accepted bytes readings output work s said in
+        let a = sheet_accepted (sym said) in
         filtered_short s (image_in bytes) output work (omega (arith, a.short, read_within bytes readings s a.read)) a.filtered
     go (refused number place) said = omega (arith, refusal_short number place)
 
 module _ {bytes readings output work text : List ℕ} {r : SheetAnswer} {readings₁ output₁ work₁ text₁ : List ℕ}
     (sheet : SheetCall bytes readings output work text r readings₁ output₁ work₁ text₁) where
   -- the length that is told is that of the whole text
-  pub told-length : text_length r ≡ length (sheet_text (sheet_due bytes (length readings) (length output) (length work)) (image_in bytes))
+  pub told-length : r.length ≡ length (sheet_text (sheet_due bytes (length readings) (length output) (length work)) (image_in bytes))
   told-length = omega (arith, sheet.text.after)
 
-  pub told-fits : text_length r ≤ most_text
+  pub told-fits : r.length ≤ most_text
   told-fits = omega (arith, told-length, sheet_fits bytes (length readings) (length output) (length work))
 
   -- so all of it stands in a text memory of that size, from the start on, and the rest of that memory is as it was
   pub sheet_whole : most_text ≤ length text
-      → text₁ ≡ sheet_text (sheet_due bytes (length readings) (length output) (length work)) (image_in bytes) ++ drop (text_length r) text
+      → text₁ ≡ sheet_text (sheet_due bytes (length readings) (length output) (length work)) (image_in bytes) ++ drop (r.length) text
   sheet_whole room =
       rw told-length (laid-front sheet.text (omega (arith, sheet_fits bytes (length readings) (length output) (length work))))

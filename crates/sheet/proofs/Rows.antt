@@ -1,11 +1,5 @@
 -- The rows of a filtered image: they stand in the output after an accepted call, and each has a drift. Assumes nothing.
-use Prim.Native.Nat.{ℕ, ◌+◌, ◌-◌, ◌*◌, ◌≤◌, ◌<◌}
-use mathlib.Core.Path.{◌≡◌, ap, sym, ◌∙◌}
-use mathlib.Core.Bool.{true}
-use mathlib.Core.List.{List, ◌++◌}
-use native.Mathlib.Omega.{arith}
-use lib.ListN.{length, take, drop, get_or, length-take, length-drop}
-use lib.Seq.{ext_get_or, get_or-take, get_or-drop}
+use Rattle.std.proofs.Common.{ℕ, ◌+◌, ◌-◌, ◌*◌, ◌≤◌, ◌<◌, ◌≡◌, ap, sym, ◌∙◌, true, List, ◌++◌, arith, length, take, drop, get_or, length-take, length-drop, ext_get_or, get_or-take, get_or-drop}
 use Rattle.lists.specs.Tabulate.{tabulate, written}
 use Rattle.lists.proofs.Tabulate.{length-tabulate, get_or-tabulate, each_tabulate}
 use Rattle.lists.proofs.Joined.{joined_cong}

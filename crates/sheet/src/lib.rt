@@ -4,88 +4,68 @@
 #![tactic(auto)]
 
 ghost use Rattle.std.specs.Prelude.{◌≡◌, ◌≤◌, length};
-ghost use Rattle.refusal.specs.Outcome.{and_then};
-ghost use Rattle.refusal.specs.Outcome.Outcome.{accepted};
-ghost use Rattle.filter.specs.Calls.{room_due};
-ghost use Rattle.record.specs.Calls.{read_outcome};
+ghost use Rattle.refusal.specs.Outcome.{outcome};
 ghost use Rattle.sheet_lines.specs.Lines.{most_text};
-ghost use Rattle.sheet.specs.Sheet.{engine_for, sheet_due, text_length, RecordFiltered, SheetCall};
+ghost use Rattle.sheet.specs.Sheet.{engine_for, sheet_due, RecordFiltered, SheetCall};
 
-use filter::{Engine, room_verdict};
-use record::ReadAnswer;
+use filter::Engine;
 use refusal::limits::{LEVEL_CYCLE, MOST_BYTES};
-use refusal::{Refusal, Verdict};
-use shape::{Shape, area_of, level_need};
+use refusal::{Refusal, refuse_if};
+use shape::Shape;
 pub use sheet_lines::MOST_TEXT;
-use sheet_lines::{put_lines, put_refusal};
+use sheet_lines::{write_lines, write_refusal};
 
-// The length of the whole text. Where it is above that of the text memory, the text was cut.
-#[derive(Clone, Copy)]
-pub enum SheetAnswer {
-    Printed(usize),
-    Refused(Refusal, usize),
+// The length is that of the whole text. Where it is above that of the text memory, the text was cut.
+#[derive(Clone, Copy, Debug, PartialEq, Eq)]
+pub struct SheetAnswer {
+    pub length: usize,
+    pub result: Result<(), Refusal>,
 }
 
 // The engine for an image, with so many numbers of work memory.
 fn engine_for(shape: Shape, room: usize) -> Engine
     ensures { result ≡ engine_for shape room }
 {
-    if LEVEL_CYCLE < shape.cycle {
-        return Engine::Reading;
-    }
-    if room < level_need(shape) {
-        return Engine::Reading;
-    }
-    Engine::Level
-}
-
-// The filter's tests of a good image: its shape, if there is room to filter it.
-fn room_answer(shape: Shape, output: usize, work: usize) -> ReadAnswer
-    ensures { read_outcome result ≡ and_then (room_due (engine_for shape work) shape output work) (λ u. accepted shape) }
-{
-    match room_verdict(engine_for(shape, work), shape, output, work) {
-        Verdict::Refused(f) => ReadAnswer::Refused(f),
-        Verdict::Passed => ReadAnswer::Read(shape),
+    if LEVEL_CYCLE < shape.cycle || room < shape.level_need() {
+        Engine::Reading
+    } else {
+        Engine::Level
     }
 }
 
 // All tests of a sheet, for buffers of so many numbers: 14, then the reader's, then the filter's.
-fn sheet_verdict(bytes: &[u8], readings: usize, output: usize, work: usize) -> ReadAnswer
-    ensures { read_outcome result ≡ sheet_due bytes.now readings output work }
+fn check(bytes: &[u8], readings: usize, output: usize, work: usize) -> Result<Shape, Refusal>
+    ensures { outcome result ≡ sheet_due bytes.now readings output work }
 {
-    if MOST_BYTES < bytes.len() {
-        return ReadAnswer::Refused(Refusal::Record);
-    }
-    match record::look(bytes, readings) {
-        ReadAnswer::Refused(f) => ReadAnswer::Refused(f),
-        ReadAnswer::Read(shape) => room_answer(shape, output, work),
-    }
+    refuse_if(MOST_BYTES < bytes.len(), Refusal::Record)?;
+    let shape = record::look(bytes, readings)?;
+    filter::check_room(engine_for(shape, work), shape, output, work)?;
+    Ok(shape)
 }
 
-// Reads and filters a record that has passed the tests.
+// Reads and filters a record. After the tests no call refuses. The three buffers stay apart: the filter takes
+// each on its own, so that a struct of them would be taken apart here.
 fn filter_record(
-    shape: Shape,
     bytes: &[u8],
     readings: &mut [u16],
     output: &mut [u16],
     work: &mut [u32],
-)
-    requires { sheet_due bytes.now (length readings.old) (length output.old) (length work.old) ≡ accepted shape }
-    ensures { RecordFiltered shape bytes.now readings.old output.old work.old readings.new output.new work.new }
+) -> Result<Shape, Refusal>
+    ensures answer { outcome result ≡ sheet_due bytes.now (length readings.old) (length output.old) (length work.old) }
+    ensures memory { RecordFiltered (outcome result) bytes.now readings.old output.old work.old readings.new output.new work.new }
 {
-    let start = 0;
-    let area = area_of(shape);
+    let shape = check(bytes, readings.len(), output.len(), work.len())?;
     let engine = engine_for(shape, work.len());
-    record::read(bytes, readings);
+    record::read(bytes, readings)?;
     filter::run(
         engine,
         shape,
-        0,
-        shape.rows,
-        &readings[start..area],
+        0..shape.rows,
+        &readings[..shape.area()],
         output,
         work,
-    );
+    )?;
+    Ok(shape)
 }
 
 // The sheet of a record, or the line of its refusal.
@@ -97,13 +77,16 @@ pub fn sheet(
     text: &mut [u8],
 ) -> SheetAnswer
     ensures sheet_call { SheetCall bytes.now readings.old output.old work.old text.old result readings.new output.new work.new text.new }
-    ensures result_bound { text_length result ≤ most_text }
+    ensures result_bound { result.length ≤ most_text }
 {
-    match sheet_verdict(bytes, readings.len(), output.len(), work.len()) {
-        ReadAnswer::Refused(f) => SheetAnswer::Refused(f, put_refusal(text, f)),
-        ReadAnswer::Read(shape) => {
-            filter_record(shape, bytes, readings, output, work);
-            SheetAnswer::Printed(put_lines(text, shape, output))
-        }
+    match filter_record(bytes, readings, output, work) {
+        Ok(shape) => SheetAnswer {
+            length: write_lines(text, shape, output),
+            result: Ok(()),
+        },
+        Err(refusal) => SheetAnswer {
+            length: write_refusal(text, refusal),
+            result: Err(refusal),
+        },
     }
 }

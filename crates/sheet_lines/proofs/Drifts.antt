@@ -1,32 +1,13 @@
--- What the drift of a row whose tests are clear is told as: its number, and never a refusal. Assumes nothing.
-use Prim.Native.Nat.{ℕ}
-use mathlib.Core.Path.{◌≡◌, ap, sym, subst, ◌∙◌}
-use mathlib.Core.List.{List}
-use lib.IntN.{ℤ, pos}
+-- What the drift of a row whose tests are clear is answered: its number. Assumes nothing.
+use Rattle.std.proofs.Common.{◌≡◌, ℕ, ℤ, List, sym, ◌∙◌}
+use Rattle.std.specs.Prelude.{Result, Ok, Err}
 use Rattle.refusal.specs.declared.Refusal.{Refusal}
-use Rattle.refusal.specs.Outcome.{Outcome, Clear}
-use Rattle.refusal.specs.Outcome.Outcome.{accepted, refused}
-use Rattle.refusal.proofs.Outcome.{clear_accepted}
+use Rattle.refusal.specs.Outcome.{Clear, outcome}
+use Rattle.refusal.proofs.Outcome.{clear_accepted, not_refused}
 use Rattle.cycle.specs.Step.{drift}
-use Rattle.cycle.specs.Calls.{row_rules, drift_due, signed_outcome}
-use Rattle.cycle.specs.declared.SignedAnswer.{SignedAnswer}
-use Rattle.cycle.specs.declared.SignedAnswer.TheVariants as signs
+use Rattle.cycle.specs.Calls.{row_rules, drift_due}
 
-abbrev value : Outcome ℤ → ℤ
-value (accepted d) = d
-value (refused number place) = pos 0
-
-abbrev is_accepted : Outcome ℤ → Type 0
-is_accepted (accepted d) = Unit
-is_accepted (refused number place) = ⊥
-
-module _ (c : ℕ) (row : List ℕ) (r : SignedAnswer) (clear : Clear (row_rules c row)) (said : signed_outcome r ≡ drift_due c row) where
-  taken : signed_outcome r ≡ accepted (drift c row)
-  unfolding drift_due
-  taken = said ∙ clear_accepted (drift c row) (row_rules c row) clear
-
-  pub told-drift : {d : ℤ} → r ≡ signs.Signed d → d ≡ drift c row
-  told-drift is = ap value (sym (ap signed_outcome is) ∙ taken)
-
-  pub never_refused : {f : Refusal} → r ≡ signs.Refused f → ⊥
-  never_refused is = subst is_accepted (sym taken ∙ ap signed_outcome is) tt
+pub drift_answered : (c : ℕ) (row : List ℕ) (r : Result ℤ Refusal) → Clear (row_rules c row) → outcome r ≡ drift_due c row → r ≡ Ok (drift c row)
+unfolding drift_due
+drift_answered c row (Ok d) clear said = cc (clear_accepted (drift c row) (row_rules c row) clear)
+drift_answered c row (Err f) clear said = not_refused (sym (said ∙ clear_accepted (drift c row) (row_rules c row) clear))

@@ -1,40 +1,40 @@
 -- Document 01, "The bench sheet": the lines that are printed, as bytes. A silent phase as in document 02, T-01.
-use Rattle.std.specs.Prelude.{ℕ, cond, List, [], ◌∷◌, ◌++◌}
+use Rattle.std.specs.Prelude.{ℕ, if◌then◌else◌, List, ◌++◌, codes, decimal}
+use Rattle.std.specs.Fmt.{signed_decimal}
+use Rattle.std.specs.List.{flat_map}
 use Rattle.lists.specs.Joined.{joined}
+use Rattle.refusal.specs.Table.{refusal_text}
 use Rattle.cycle.specs.Silence.{is_heard}
 use Rattle.cycle.specs.Step.{drift}
 use Rattle.shape.specs.declared.Shape.{Shape}
 use Rattle.shape.specs.Rules.{row_of}
-use Rattle.text.specs.Text.{decimal, signed}
-use Rattle.sheet_lines.specs.Words.{refused_word, at_word, cycle_word, rows_word, columns_word, mask_word, space, row_word, colon, silent_word, drift_word}
-use Rattle.sheet_lines.specs.Words.{line_end}
 
--- a word and a number
-abbrev pub counted : List ℕ → ℕ → List ℕ
-counted word n = word ++ decimal n
+-- every line ends in a line feed
+abbrev pub line_end : List ℕ
+line_end = codes "\n"
 
 -- "A refusal prints `refused 9 at 1` (number, place)."
 abbrev pub refusal_line : ℕ → ℕ → List ℕ
-refusal_line number place = counted refused_word number ++ (counted at_word place ++ line_end)
+refusal_line number place = refusal_text number place ++ line_end
 
 -- "First line: C, M, N, R, T."
 abbrev pub head_line : Shape → List ℕ
 head_line s =
-    counted cycle_word s.cycle ++ (counted rows_word s.rows ++ (counted columns_word s.columns
-    ++ (counted mask_word s.mask_rows ++ (counted space s.mask_columns ++ line_end))))
+    codes "cycle " ++ decimal s.cycle ++ codes " rows " ++ decimal s.rows ++ codes " columns " ++ decimal s.columns
+    ++ codes " mask " ++ decimal s.mask_rows ++ codes " " ++ decimal s.mask_columns ++ line_end
 
 -- a phase: its number; of silent ones "the sheet prints them as `-`" (document 02, T-01)
 unfoldable pub phase_word : ℕ → List ℕ
-phase_word p = cond (is_heard p) (decimal p) silent_word
+phase_word p = if is_heard p then decimal p else codes "-"
 
 -- each phase after a space
-unfoldable pub phase_words : List ℕ → List ℕ
-phase_words [] = []
-phase_words (p ∷ ps) = (space ++ phase_word p) ++ phase_words ps
+abbrev pub phase_words : List ℕ → List ℕ
+phase_words = flat_map (λ p. codes " " ++ phase_word p)
 
--- "Then for each row its index from 0, its N filtered phases, and their drift."
+-- "Then for each row its index from 0, its N filtered phases, and their drift." "Only a drift below 0 has a sign."
 abbrev pub row_line : ℕ → ℕ → List ℕ → List ℕ
-row_line c i phases = counted row_word i ++ (colon ++ (phase_words phases ++ (drift_word ++ (signed (drift c phases) ++ line_end))))
+row_line c i phases =
+    codes "row " ++ decimal i ++ codes ":" ++ phase_words phases ++ codes " drift " ++ signed_decimal (drift c phases) ++ line_end
 
 -- the lines of a filtered image
 unfoldable pub image_lines : Shape → List ℕ → List ℕ

@@ -1,3 +1,1 @@
 pub mod TextLaws
-mod DigitLaws
-pub mod SizeLaws

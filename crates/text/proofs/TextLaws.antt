@@ -1,16 +1,11 @@
--- Laws of text that is laid into memory piece by piece, and of how many bytes a number in decimal has. Assumes nothing.
-use Prim.Native.Nat.{ℕ, zero, suc, ◌+◌, ◌-◌, ◌*◌, ◌/◌, ◌%◌, ◌^◌, ◌≤◌, ◌<◌}
-use mathlib.Core.Path.{◌≡◌, ap, sym, ◌∙◌}
-use mathlib.Core.List.{List, [], ◌∷◌, ◌++◌, append_assoc, append-nil}
-use native.Mathlib.Omega.{arith}
-use native.Mathlib.Decide.{dec_le, dec_lt}
-use native.Mathlib.Nat.{add-zero, zero-add, pow-suc}
-use native.Mathlib.Numerals.{add-one}
-use borrow.Author.Tests.{lt-ltb, le-ltb}
-use lib.IntN.{ℤ, pos, negsuc, nat_abs}
-use lib.ListN.{length, take, drop, set, length-append, length-take, length-drop, take-append-drop, drop_of_length-le}
-use lib.Seq.{take_all, take_at, drop_at, drop-drop, take-append-le, take-append-add, set_split}
-use Rattle.text.specs.Text.{digits, decimal, signed, laid, Laid}
+-- Laws of text that is laid into memory piece by piece. Assumes nothing.
+use Rattle.std.proofs.Common.{◌≡◌, refl, ap, sym, ◌∙◌, ℕ, ◌+◌, ◌-◌, ◌^◌, min, ◌≤◌, ◌<◌, List, [], ◌++◌, length, take, drop, arith, append_assoc, append-nil, add-zero, zero-add}
+use Rattle.std.proofs.Math.Decide.{dec_le}
+use Rattle.std.proofs.Math.Seq.{take-append-add}
+use Rattle.std.proofs.lemmas.List.{length-append, length-take, length-drop, drop-drop, drop_all, take_min, take_all, take_at, drop_at, take-append-le, take-append-drop}
+use borrow.Rule.Slice.PartMut.{put_mid}
+use Rattle.text.specs.declared.Text.{Text}
+use Rattle.text.specs.Text.{laid, Laid, Appended}
 
 -- memory after bytes for which there is room, and after bytes that reach its end
 laid-inside : (t : List ℕ) (at : ℕ) (bytes : List ℕ) → at + length bytes ≤ length t → laid t at bytes ≡ take at t ++ (bytes ++ drop (at + length bytes) t)
@@ -19,11 +14,29 @@ laid-inside t at bytes h = rw (take_all (length t - at) bytes (omega arith))
 
 laid_past : (t : List ℕ) (at : ℕ) (bytes : List ℕ) → length t ≤ at + length bytes → laid t at bytes ≡ take at t ++ take (length t - at) bytes
 unfolding laid
-laid_past t at bytes h = rw (drop_of_length-le t h, append-nil)
+laid_past t at bytes h = rw (drop_all (at + length bytes) t h, append-nil)
 
 length-laid : (t : List ℕ) (at : ℕ) (bytes : List ℕ) → length (laid t at bytes) ≡ length t
 unfolding laid
 length-laid t at bytes = simp (length-append, length-take, length-drop) (omega arith)
+
+-- what code lays: the bytes that fit, put in the place of those that were there
+pub laid_part : (t : List ℕ) (at : ℕ) (bytes : List ℕ) (start fitting : ℕ) (part : List ℕ) → start ≡ min at (length t) → fitting ≡ min (length bytes) (length t - start)
+    → part ≡ take fitting bytes → put_mid start (start + fitting - start) t part ≡ laid t at bytes
+laid_part t at bytes start fitting part s f p =
+    let count : start + fitting - start ≡ fitting = omega arith in
+    let front : take start t ≡ take at t = rw s (take_min at t) in
+    rw (count, drop-drop fitting start t, front, p) (go (dec_le (at + length bytes) (length t)))
+  where
+    go : Dec (at + length bytes ≤ length t) → take at t ++ (take fitting bytes ++ drop (start + fitting) t) ≡ laid t at bytes
+    go (yes h) =
+        let whole : fitting ≡ length bytes = omega arith in
+        let here : start ≡ at = omega arith in
+        rw (here, whole, take_all (length bytes) bytes (omega arith)) (sym (laid-inside t at bytes h))
+    go (no h) =
+        let room : fitting ≡ length t - at = omega arith in
+        let end : length t ≤ start + fitting = omega arith in
+        rw (drop_all (start + fitting) t end, append-nil, room) (sym (laid_past t at bytes (omega arith)))
 
 -- nothing is laid past the end
 laid_beyond : (t : List ℕ) (at : ℕ) (bytes : List ℕ) → length t ≤ at → laid t at bytes ≡ t
@@ -67,16 +80,6 @@ module _ {t : List ℕ} {at : ℕ} where
       none (yes h) = laid-inside t at [] (omega arith) ∙ rw add-zero (take-append-drop at t)
       none (no h) = laid_beyond t at [] (omega arith)
 
-  -- one byte is laid, or there is no room for it
-  pub laid_one : (byte : ℕ) → at < length t → Laid t at (byte ∷ []) (at + 1) (set t at byte)
-  laid_one byte h = record {
-    memory = set_split t at byte h ∙ rw (← add-one) (sym (laid-inside t at (byte ∷ []) (omega arith)));
-    after = omega arith;
-  }
-
-  pub laid_full : (byte : ℕ) → length t ≤ at → Laid t at (byte ∷ []) (at + 1) t
-  laid_full byte h = record { memory = sym (laid_beyond t at (byte ∷ []) h); after = omega arith }
-
   module _ {bytes : List ℕ} {next : ℕ} {t₁ : List ℕ} (l : Laid t at bytes next t₁) where
     -- memory stays as long as it was
     pub laid-length : length t₁ ≡ length t
@@ -93,43 +96,27 @@ module _ {t : List ℕ} {at : ℕ} where
         joined (yes h) = laid_twice t at bytes more h
         joined (no h) = laid_end t at bytes more (omega arith)
 
+module _ {t : Text} where
+  -- nothing is put, and one piece more
+  pub appended_none : Appended t [] t
+  appended_none = record { same_memory = refl; laid = λ fits. laid_none }
+
+  pub appended_more : {bytes more : List ℕ} {t₁ t₂ : Text} → Appended t bytes t₁ → Appended t₁ more t₂ → Appended t (bytes ++ more) t₂
+  appended_more {bytes} {more} p q = record {
+    same_memory = q.same_memory ∙ p.same_memory;
+    laid = λ fits.
+        let both : length (bytes ++ more) ≡ length bytes + length more = length-append bytes more in
+        let l = p.laid (omega arith) in
+        laid_more l (q.laid (omega (arith, l.after)));
+  }
+
+-- a text that began in the memory m, at its end
+pub appended_laid : {m bytes m₁ : List ℕ} {end : ℕ} {t t₁ : Text} → Appended t bytes t₁ → t.memory.now ≡ m → t.length ≡ 0 → length bytes < 2 ^ 64
+    → end ≡ t₁.length → m₁ ≡ t₁.memory.now → Laid m 0 bytes end m₁
+appended_laid {bytes} {t} p start at fits last end =
+    let l = p.laid (omega arith) in
+    record { memory = end ∙ l.memory ∙ rw (start, at); after = omega (arith, l.after) }
+
 -- from the start on, where there is room for all of it
 pub laid-front : {t bytes : List ℕ} {next : ℕ} {t₁ : List ℕ} → Laid t 0 bytes next t₁ → length bytes ≤ length t → t₁ ≡ bytes ++ drop (length bytes) t
 laid-front {t} {bytes} l h = l.memory ∙ laid-inside t 0 bytes (omega arith) ∙ rw zero-add
-
--- a number below 10 ^ (k + 1) has at most k + 1 digits, and none has more than 20
-digits_short : (f n k : ℕ) → n < 10 ^ (k + 1) → length (digits f n) ≤ k + 1
-unfolding digits
-digits_short zero n k h = omega arith
-digits_short (suc f) n k h = go (dec_lt n 10) k h (digits_short f (n / 10))
-  where
-    go : Dec (n < 10) → (k : ℕ) → n < 10 ^ (k + 1) → ((j : ℕ) → n / 10 < 10 ^ (j + 1) → length (digits f (n / 10)) ≤ j + 1) → length (digits (suc f) n) ≤ k + 1
-    go (yes g) k h high = rw (lt-ltb n 10 g) (omega arith)
-    go (no g) zero h high = absurd (omega arith)
-    go (no g) (suc k) h high =
-        let e : 10 ^ (suc k + 1) ≡ 10 ^ (k + 1) * 10 = rw (add-one (suc k), add-one k) (pow-suc 10 (suc k)) in
-        rw (le-ltb n 10 (omega arith)) (omega (arith, length-append (digits f (n / 10)) ((48 + n % 10) ∷ []), high k (omega arith)))
-
-pub decimal_short : (n k : ℕ) → n < 10 ^ (k + 1) → length (decimal n) ≤ k + 1
-decimal_short n k h = digits_short 20 n k h
-
-digits_most : (f n : ℕ) → length (digits f n) ≤ f
-unfolding digits
-digits_most zero n = omega arith
-digits_most (suc f) n = go (dec_lt n 10) (digits_most f (n / 10))
-  where
-    go : Dec (n < 10) → length (digits f (n / 10)) ≤ f → length (digits (suc f) n) ≤ suc f
-    go (yes g) high = rw (lt-ltb n 10 g) (omega arith)
-    go (no g) high = rw (le-ltb n 10 (omega arith)) (omega (arith, length-append (digits f (n / 10)) ((48 + n % 10) ∷ [])))
-
-pub decimal_most : (n : ℕ) → length (decimal n) ≤ 20
-decimal_most n = digits_most 20 n
-
--- a sign is one byte more
-pub signed_short : (z : ℤ) (k : ℕ) → nat_abs z < 10 ^ (k + 1) → length (signed z) ≤ k + 2
-signed_short (pos n) k h = omega (arith, decimal_short n k h)
-signed_short (negsuc n) k h = omega (arith, decimal_short (suc n) k h)
-
-pub signed_most : (z : ℤ) → length (signed z) ≤ 21
-signed_most (pos n) = omega (arith, decimal_most n)
-signed_most (negsuc n) = omega (arith, decimal_most (suc n))

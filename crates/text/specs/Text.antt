@@ -1,19 +1,6 @@
--- Text as bytes, each a number: decimal numbers as the bench sheet has them, and text that is laid into lent memory piece by piece.
-use Rattle.std.specs.Prelude.{ℕ, zero, suc, ◌+◌, ◌-◌, ◌/◌, ◌%◌, ◌≡◌, cond, List, [], ◌∷◌, ◌++◌, ltb, ℤ, pos, negsuc, length, take, drop}
-
--- the decimal digits of n, the high one first, as bytes; k of them are enough
-unfoldable pub digits : ℕ → ℕ → List ℕ
-digits zero n = []
-digits (suc k) n = cond (ltb n 10) ((48 + n) ∷ []) (digits k (n / 10) ++ ((48 + n % 10) ∷ []))
-
--- a number of 64 bits, which has at most 20 digits
-abbrev pub decimal : ℕ → List ℕ
-decimal n = digits 20 n
-
--- "Only a drift below 0 has a sign."
-abbrev pub signed : ℤ → List ℕ
-signed (pos n) = decimal n
-signed (negsuc n) = 45 ∷ decimal (suc n)
+-- Text as bytes, each a number, that is laid into lent memory piece by piece.
+use Rattle.std.specs.Prelude.{ℕ, ◌+◌, ◌-◌, ◌^◌, ◌<◌, ◌≡◌, List, ◌++◌, length, take, drop}
+use Rattle.text.specs.declared.Text.{Text}
 
 -- memory with bytes laid into it from a place on, as many as there is room for; all else is as it was
 unfoldable pub laid : List ℕ → ℕ → List ℕ → List ℕ
@@ -23,3 +10,8 @@ laid t at bytes = take at t ++ (take (length t - at) bytes ++ drop (at + length 
 pub record Laid (t : List ℕ) (at : ℕ) (bytes : List ℕ) (next : ℕ) (t₁ : List ℕ) : Type 0 where
   pub memory : t₁ ≡ laid t at bytes
   pub after : next ≡ at + length bytes
+
+-- bytes were put behind the text t, which left t₁ in the same memory: where the length of the whole fits 64 bits, they are laid behind what was there
+pub record Appended (t : Text) (bytes : List ℕ) (t₁ : Text) : Type 0 where
+  pub same_memory : t₁.memory.ghost_name ≡ t.memory.ghost_name
+  pub laid : t.length + length bytes < 2 ^ 64 → Laid t.memory.now t.length bytes t₁.length t₁.memory.now

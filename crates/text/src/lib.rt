@@ -1,71 +1,49 @@
-// Text laid into lent memory piece by piece: bytes, and numbers in decimal. Each function returns the
-// place after its piece. Where there is no room left it lays what fits and drops the rest, and the place
-// goes on counting, so that the last one is the length of the whole text. Internal: each asks that this
-// count fits 64 bits, which the caller meets.
+// Text laid into lent memory piece by piece: bytes, and numbers in decimal. Where there is no room left it
+// lays what fits and drops the rest, and its length goes on counting, so that the last one is that of the
+// whole text. Internal: pieces lie one behind the other as long as this length fits 64 bits.
 #![tactic(auto)]
 
-ghost use Rattle.std.specs.Prelude.{◌≡◌, [], ◌∷◌, ◌+◌, ◌^◌, ◌<◌, nat_abs, length};
-ghost use Rattle.text.specs.Text.{decimal, signed, Laid};
+ghost use Rattle.std.specs.Prelude.{◌≡◌};
+ghost use Rattle.text.specs.Text.{Appended};
 
-pub fn put_byte(text: &mut [u8], at: usize, byte: u8) -> usize
-    requires { at + 1 < 2 ^ 64 }
-    ensures { Laid text.old at (byte ∷ []) result text.new }
-{
-    if at < text.len() {
-        text[at] = byte;
-        return at + 1;
-    }
-    at + 1
+use itoa::{Buffer, Integer};
+
+#[derive(Drop)]
+pub struct Text<'a> {
+    memory: &'a mut [u8],
+    length: usize,
 }
 
-pub fn put_bytes(text: &mut [u8], at: usize, bytes: &[u8]) -> usize
-    requires { at + length bytes.now < 2 ^ 64 }
-    ensures { Laid text.old at bytes.now result text.new }
-{
-    let mut place = at;
-    let mut i = 0;
-    while i < bytes.len() {
-        place = put_byte(text, place, bytes[i]);
-        i += 1;
+impl<'a> Text<'a> {
+    pub fn new(memory: &'a mut [u8]) -> Text<'a>
+        ensures same_memory { result.memory.ghost_name ≡ memory.entry.ghost_name }
+        ensures untouched { result.memory.now ≡ memory.old }
+        ensures empty { result.length ≡ 0 }
+    {
+        Text { memory, length: 0 }
     }
-    place
-}
 
-// A number in decimal.
-pub fn put_decimal(text: &mut [u8], at: usize, n: u64) -> usize
-    requires { at + 20 < 2 ^ 64 }
-    ensures { Laid text.old at (decimal n) result text.new }
-{
-    let mut digits = [0u8; 20];
-    let mut rest = n;
-    let mut first = 19;
-    digits[first] = 48 + (rest % 10) as u8;
-    while 10 <= rest {
-        rest = rest / 10;
-        first -= 1;
-        digits[first] = 48 + (rest % 10) as u8;
+    // The length of the whole text.
+    pub fn length(&self) -> usize
+        ensures { result ≡ self.now.length }
+    {
+        self.length
     }
-    put_bytes(text, at, &digits[first..])
-}
 
-// A number without its sign.
-pub fn size(x: i32) -> u32
-    ensures { result ≡ nat_abs x }
-{
-    if x < 0 {
-        return (-1 - x) as u32 + 1;
+    pub fn append(&mut self, bytes: &[u8])
+        ensures { Appended self.old bytes.now self.new }
+    {
+        let start = self.length.min(self.memory.len());
+        let fitting = bytes.len().min(self.memory.len() - start);
+        self.memory[start..start + fitting].copy_from_slice(&bytes[..fitting]);
+        self.length = self.length.saturating_add(bytes.len());
     }
-    x as u32
-}
 
-// A number in decimal, with a sign only below 0.
-pub fn put_signed(text: &mut [u8], at: usize, n: i32) -> usize
-    requires { at + 21 < 2 ^ 64 }
-    ensures { Laid text.old at (signed n) result text.new }
-{
-    if n < 0 {
-        let place = put_byte(text, at, 45);
-        return put_decimal(text, place, size(n) as u64);
+    // A number in decimal, with a sign only below 0.
+    pub fn append_number<I: Integer>(&mut self, n: I)
+        ensures { Appended self.old (I.text n) self.new }
+    {
+        let mut digits = Buffer::new();
+        self.append(digits.format(n).as_bytes());
     }
-    put_decimal(text, at, size(n) as u64)
 }

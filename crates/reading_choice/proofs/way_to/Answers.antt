@@ -4,6 +4,4 @@ use Rattle.reading_choice.proofs.RankLaws.{way_by_code}
 use Rattle.reading_choice.proofs.way_to.Goals as goal
 
 pub returns : goal.returns
-returns c =
-    let a = c.args in
-    way_by_code a.cycle a.a a.q (omega arith) (omega arith) c.wrapping_sub_u16.ensures.value c.turn_of.ensures c.wrapping_add_u16.ensures.value
+returns c = way_by_code c.args.cycle c.args.a c.args.q _ (omega arith) c.turn_of.ensures

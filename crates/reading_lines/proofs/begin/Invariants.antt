@@ -1,11 +1,7 @@
--- `reading_lines::begin` meets its contract. Assumes nothing.
-use Rattle.std.proofs.Common.{◌-◌, ◌≤◌}
-use Rattle.memory.specs.Memory.{Changed}
+-- `reading_lines::begin` meets its contract: each place that was passed has its number. Assumes nothing.
+use Rattle.std.proofs.Common.{◌≡◌, ℕ, ◌<◌, get_or}
 use Rattle.reading_lines.specs.Passes.{marks}
 use Rattle.reading_lines.proofs.begin.Given as goal
 
 abbrev pub invariant-loop-j : goal.invariant-loop-j
-invariant-loop-j l = (l.j ≤ l.n) × Changed l.initial.change l.change 0 l.j (marks l.own)
-
-abbrev pub decreases-loop-j : goal.decreases-loop-j
-decreases-loop-j l = l.n - l.j
+invariant-loop-j l = (k : ℕ) → k < l.j → get_or l.changes k 0 ≡ marks l.own k

@@ -1,45 +1,9 @@
-use Rattle.std.proofs.Common.{arith, rules}
-use Rattle.memory.proofs.Memory.{changed_start, changed_turn_first, changed_done}
+use Rattle.std.proofs.Common.{arith}
 use Rattle.reading_lines.proofs.StepLaws.{found_half}
 use Rattle.reading_lines.proofs.steps.Goals as goal
 
-pub share_of-gain-requires : goal.share_of-gain-requires
-share_of-gain-requires c = λ e. c.requires.0.plainly e c.loop-j.j (omega arith)
+pub overflow_add-steps : goal.overflow_add-steps
+overflow_add-steps c = omega (arith, found_half _ _ _ c.share_of-gain.ensures)
 
-pub share_of-loss-requires : goal.share_of-loss-requires
-share_of-loss-requires c = λ e. c.requires.1.plainly e c.loop-j.j (omega arith)
-
-pub loop-j-init : goal.loop-j-init
-loop-j-init c = (search rules, changed_start)
-
-pub loop-j-preserved : goal.loop-j-preserved
-loop-j-preserved c =
-    let e = c.share_of-gain.ensures in
-    (omega arith, changed_turn_first c.loop-j.invariant.1 (omega arith) (omega (arith, e, c.share_of-loss.ensures)))
-
-pub returns : goal.returns
-returns c = changed_done c.loop-j.invariant.1 (omega arith)
-
-pub overflow_add-q : goal.overflow_add-q
-overflow_add-q c = omega (arith, c.requires.0.own_room)
-
-pub bounds-own-l : goal.bounds-own-l
-bounds-own-l c = omega (arith, c.requires.0.own_room)
-
-pub overflow_add-at : goal.overflow_add-at
-overflow_add-at c = omega (arith, c.requires.0.row_room)
-
-pub bounds-entering-at : goal.bounds-entering-at
-bounds-entering-at c = omega (arith, c.requires.0.row_room)
-
-pub overflow_add-at-in-loop-j : goal.overflow_add-at-in-loop-j
-overflow_add-at-in-loop-j c = omega (arith, c.requires.1.row_room)
-
-pub bounds-leaving-at : goal.bounds-leaving-at
-bounds-leaving-at c = omega (arith, c.requires.1.row_room)
-
-pub overflow_add-out : goal.overflow_add-out
-overflow_add-out c = omega (arith, found_half _ _ _ c.share_of-gain.ensures)
-
-pub overflow_sub-out : goal.overflow_sub-out
-overflow_sub-out c = omega (arith, found_half _ _ _ c.share_of-loss.ensures)
+pub overflow_sub-steps : goal.overflow_sub-steps
+overflow_sub-steps c = omega (arith, found_half _ _ _ c.share_of-loss.ensures)

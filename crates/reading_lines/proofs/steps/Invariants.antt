@@ -1,11 +1,7 @@
--- `reading_lines::steps` meets its contract. Assumes nothing.
-use Rattle.std.proofs.Common.{◌-◌, ◌≤◌}
+-- `reading_lines::steps` meets its contract: each place that was passed has its number. Assumes nothing.
 use Rattle.memory.specs.Memory.{Changed}
 use Rattle.reading_lines.specs.Passes.{stepped}
 use Rattle.reading_lines.proofs.steps.Given as goal
 
 abbrev pub invariant-loop-j : goal.invariant-loop-j
-invariant-loop-j l = (l.j ≤ l.n) × Changed l.initial.out l.out 0 l.j (stepped l.cycle l.own l.l l.entering l.leaving l.at)
-
-abbrev pub decreases-loop-j : goal.decreases-loop-j
-decreases-loop-j l = l.n - l.j
+invariant-loop-j l = Changed l.initial.steps l.steps 0 l.j (stepped l.cycle l.own l.entering l.leaving)

@@ -1,67 +1,50 @@
--- `record::look` meets its contract. The tests of the body follow those of the head (`on`), so the answer is the head's refusal, or what the
--- body's tests say. Assumes nothing.
-use mathlib.Core.Path.{◌≡◌, sym, ap, ◌∙◌}
-use mathlib.Core.List.{List, ◌++◌}
-use Prim.Native.Nat.{ℕ}
-use Rattle.refusal.specs.Outcome.{Outcome, Rule, Clear, first_due, and_then}
+-- `record::look` meets its contract: the tests of the body follow those of the head.
+use Rattle.std.proofs.Common.{◌≡◌, ℕ, List, ◌++◌, sym, ap, ◌∙◌, rules}
+use Rattle.refusal.specs.Outcome.{Rule, Clear, first_due}
 use Rattle.refusal.specs.Outcome.Outcome.{accepted}
-use Rattle.refusal.proofs.Outcome.{accepted_clear, accepted_value, clear_accepted, clear_split, due-append, passed_clear, refused_alone}
-use Rattle.shape.specs.declared.Shape.{Shape}
+use Rattle.refusal.proofs.Outcome.{accepted_clear, accepted_value, clear_split, due-refused, refused-due, after_clear, handed_on, handed_alone, passed_alone}
 use Rattle.record_format.specs.Reading.{shape_in, mask_value_rules, body_rules, read_rules, read_due}
-use Rattle.record_read.specs.declared.HeadAnswer.{HeadAnswer}
-use Rattle.record_read.specs.Stages.{head_rules, head_outcome}
+use Rattle.record_read.specs.Stages.{head_rules}
 use Rattle.record_read.proofs.Stages.{headed}
 use Rattle.record.proofs.look.Goals as goal
-use Rattle.record.proofs.look.Goals.{After-head_answer, In-Headed}
+use Rattle.record.proofs.look.Goals.{In_ok-shape}
 
 -- the tests of the head
 abbrev head : List ℕ → ℕ → List Rule
 head b room = head_rules b ++ mask_value_rules (shape_in b) room
 
--- what is left to answer, by the answer of the head
-abbrev left : List ℕ → HeadAnswer → Outcome Shape
-left b r = and_then (head_outcome r) (λ (u : Shape). first_due (body_rules b) (shape_in b))
+clear : (c : In_ok-shape) → Clear (head c.args.bytes.now c.args.room)
+clear c = let b = c.args.bytes.now in accepted_clear (shape_in b) (head b c.args.room) _ (sym c.in_ok-shape.ensures)
 
-on : (c : After-head_answer) → read_due c.args.bytes.now c.args.room ≡ left c.args.bytes.now c.head_answer.result
+shape_is : (c : In_ok-shape) → c.in_ok-shape.shape ≡ shape_in c.args.bytes.now
+shape_is c = let b = c.args.bytes.now in accepted_value (shape_in b) (head b c.args.room) _ (sym c.in_ok-shape.ensures)
+
+-- the tests of the body say the rest
+body-left : (c : In_ok-shape) → let b = c.args.bytes.now in read_due b c.args.room ≡ first_due (body_rules b) (shape_in b)
 unfolding read_due read_rules
-on c =
+body-left c = let b = c.args.bytes.now in after_clear (shape_in b) (head b c.args.room) (body_rules b) (clear c)
+
+pub invariant_of-check_body : goal.invariant_of-check_body
+invariant_of-check_body c =
     let b = c.args.bytes.now in
-    due-append (shape_in b) (shape_in b) (head b c.args.room) (body_rules b)
-    ∙ ap (λ (o : Outcome Shape). and_then o (λ (u : Shape). first_due (body_rules b) (shape_in b))) (sym c.head_answer.ensures)
+    record { shape_is = shape_is c; headed = headed b (clear_split (head_rules b) (mask_value_rules (shape_in b) c.args.room) (clear c)).0 }
 
-answered : (c : In-Headed) → let b = c.args.bytes.now in first_due (head b c.args.room) (shape_in b) ≡ accepted c.in-Headed.shape
-answered c = sym (rw c.in-Headed.is at c.head_answer.ensures)
-
-clear : (c : In-Headed) → let b = c.args.bytes.now in Clear (head b c.args.room)
-clear c = let b = c.args.bytes.now in accepted_clear (shape_in b) (head b c.args.room) _ (answered c)
-
-shape_is : (c : In-Headed) → c.in-Headed.shape ≡ shape_in c.args.bytes.now
-shape_is c = let b = c.args.bytes.now in accepted_value (shape_in b) (head b c.args.room) _ (answered c)
-
-body-left : (c : In-Headed) → let b = c.args.bytes.now in
-    read_due b c.args.room ≡ first_due (body_rules b) (shape_in b)
+pub returns-in_err-shape : goal.returns-in_err-shape
 unfolding read_due read_rules
-body-left c =
+returns-in_err-shape c =
     let b = c.args.bytes.now in
-    due-append (shape_in b) (shape_in b) (head b c.args.room) (body_rules b)
-    ∙ ap (λ (o : Outcome Shape). and_then o (λ (u : Shape). first_due (body_rules b) (shape_in b))) (answered c)
+    let s = shape_in b in
+    let told-head = sym (due-refused tt (refused-due s (head b c.args.room) _ _ (sym c.in_err-shape.ensures))) in
+    handed_on (head b c.args.room) s (body_rules b) told-head (search rules)
 
-pub body_verdict-requires : goal.body_verdict-requires
-body_verdict-requires c =
-    let a = c.args in
-    (shape_is c, headed a.bytes.now (clear_split (head_rules a.bytes.now) (mask_value_rules (shape_in a.bytes.now) a.room) (clear c)).0)
-
-pub returns-in-Refused : goal.returns-in-Refused
-returns-in-Refused c =
-    sym (on (goal.at.returns-in-Refused c).After-head_answer ∙ ap (left c.args.bytes.now) c.in-Refused.is)
-
-pub returns-in-Refused-body_verdict : goal.returns-in-Refused-body_verdict
-returns-in-Refused-body_verdict c =
+pub returns-in_err-check_body : goal.returns-in_err-check_body
+returns-in_err-check_body c =
     let b = c.args.bytes.now in
-    sym (body-left (goal.at.returns-in-Refused-body_verdict c).In-Headed ∙ refused_alone (body_rules b) c.body_verdict.ensures (shape_in b) c.in-Refused-body_verdict.is)
+    handed_alone (body_rules b) (shape_in b) c.in_err-check_body.ensures (search rules)
+    ∙ sym (body-left (goal.at.returns-in_err-check_body c).In_ok-shape)
 
-pub returns-in-Passed : goal.returns-in-Passed
-returns-in-Passed c =
+pub returns : goal.returns
+returns c =
     let b = c.args.bytes.now in
-    let passed = passed_clear (body_rules b) c.body_verdict.ensures c.in-Passed.is in
-    ap accepted (shape_is (goal.at.returns-in-Passed c).In-Headed) ∙ sym (body-left (goal.at.returns-in-Passed c).In-Headed ∙ clear_accepted (shape_in b) (body_rules b) passed)
+    ap accepted (shape_is (goal.at.returns c).In_ok-shape) ∙ passed_alone (body_rules b) (shape_in b) c.in_ok-check_body.ensures
+    ∙ sym (body-left (goal.at.returns c).In_ok-shape)

@@ -1,13 +1,14 @@
--- `record_format::put_number` meets its contract. Assumes nothing.
-use native.Mathlib.Numerals.{add-one}
-use borrow.Author.Rules.{rules}
-use lib.ListN.{length-set}
+-- `record_format::put_number` meets its contract: the part that is lent comes back as the two bytes of the number.
+use Rattle.std.proofs.Common.{◌≡◌, ◌/◌, ◌%◌, ap, ◌∙◌, arith}
+use Rattle.std.proofs.lemmas.List.Edits.{sets}
+use Rattle.lists.proofs.Stores.{put_mid-sets}
 use Rattle.record_format.specs.Fields.{number}
 use Rattle.record_format.proofs.put_number.Goals as goal
 
-pub bounds-bytes-at-2 : goal.bounds-bytes-at-2
-bounds-bytes-at-2 c = simp length-set (search rules)
-
 pub returns : goal.returns
 unfolding number
-returns c = rw (add-one c.args.at)
+returns c =
+    let a = c.args in
+    let high : a.x / 256 % 256 ≡ a.x / 256 = omega arith in
+    let part : c.copy_from_slice.new.self ≡ number a.x = c.copy_from_slice.ensures.after ∙ c.to_be_bytes.ensures ∙ rw high in
+    put_mid-sets a.bytes.now c.copy_from_slice.new.self a.at _ (omega (arith, c.copy_from_slice.ensures.len)) (omega arith) ∙ ap (sets a.bytes.now a.at) part

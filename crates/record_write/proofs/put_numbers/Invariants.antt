@@ -1,12 +1,8 @@
--- `record_write::put_numbers` meets its contract. Assumes nothing.
-use Prim.Native.Nat.{◌-◌, ◌≤◌}
-use lib.ListN.{length, take}
+-- `record_write::put_numbers` meets its contract: the numbers before the one at hand are stored.
+use Rattle.std.proofs.Common.{take}
 use Rattle.lists.proofs.Stores.{Stored}
 use Rattle.record_format.specs.Fields.{numbers}
 use Rattle.record_write.proofs.put_numbers.Given as goal
 
 abbrev pub invariant-loop-k : goal.invariant-loop-k
-invariant-loop-k l = (l.k ≤ length l.row) × Stored l.initial.bytes l.at (numbers (take l.k l.row)) l.bytes
-
-abbrev pub decreases-loop-k : goal.decreases-loop-k
-decreases-loop-k l = length l.row - l.k
+invariant-loop-k l = Stored l.initial.bytes l.at (numbers (take l.k l.values)) l.bytes

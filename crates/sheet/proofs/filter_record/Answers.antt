@@ -1,47 +1,33 @@
--- `sheet::filter_record` meets its contract. Assumes nothing.
-use Prim.Native.Nat.{◌-◌}
-use mathlib.Core.Path.{◌≡◌}
-use native.Mathlib.Omega.{arith}
-use lib.ListN.{length, take, drop}
-use Rattle.shape.specs.Rules.{area}
-use Rattle.filter.specs.Calls.{FilterCall}
-use Rattle.record_format.specs.Reading.{image_in}
-use Rattle.sheet.specs.Sheet.{engine_for}
-use Rattle.sheet.proofs.Calls.{SheetAccepted, sheet_accepted, stored, image_stored, filtered-rows}
+-- `sheet::filter_record` meets its contract: after the tests neither the reader nor the filter refuses.
+use Rattle.std.proofs.Common.{refl, sym, length, arith, length-take}
+use Rattle.refusal.proofs.Outcome.{not_refused}
+use Rattle.sheet.proofs.Calls.{SheetAccepted, sheet_accepted, read_passes, image_room, filter_passes, record_filtered}
 use Rattle.sheet.proofs.filter_record.Goals as goal
-use Rattle.sheet.proofs.filter_record.Goals.{After-read, Start}
+use Rattle.sheet.proofs.filter_record.Goals.{In_ok-shape}
 
 -- the tests have passed
-passed : (s : Start) → let a = s.args in
-    SheetAccepted a.bytes.now (length a.readings.now) (length a.output.now) (length a.work.now) a.shape
-passed s =
-    let a = s.args in
-    sheet_accepted a.bytes.now (length a.readings.now) (length a.output.now) (length a.work.now) a.shape s.requires
+passed : (c : In_ok-shape) → let a = c.args in
+    SheetAccepted a.bytes.now (length a.readings.now) (length a.output.now) (length a.work.now) c.in_ok-shape.shape
+passed c = sheet_accepted c.in_ok-shape.ensures
 
--- the number of readings, as code has it
-sized : (r : After-read) → r.area_of-area.result ≡ area r.args.shape
-sized r = r.area_of-area.ensures
+pub returns-in_err-read : goal.returns-in_err-read
+returns-in_err-read c =
+    not_refused (sym (read_passes (passed (goal.at.returns-in_err-read c).In_ok-shape) c.in_err-read.ensures))
 
 pub slice_bounds-run-end : goal.slice_bounds-run-end
 slice_bounds-run-end c =
-    let a = c.args in
-    omega (
-      arith,
-      sized (goal.at.slice_bounds-run-end c).After-read,
-      (image_stored a.bytes.now a.readings.now a.output.now a.work.now (passed (goal.at.slice_bounds-run-end c).Start) c.read.ensures).0,
-    )
+    omega (arith, image_room (passed (goal.at.slice_bounds-run-end c).In_ok-shape) c.in_ok-read.ensures)
 
-pub returns : goal.returns
-returns c =
-    let a = c.args in
-    let p = passed (goal.at.returns c).Start in
-    let bytes = a.bytes.now in
-    let size = c.area_of-area.result in
-    let e : size - 0 ≡ area a.shape = omega (arith, sized (goal.at.returns c).After-read) in
-    let image : take (size - 0) (drop 0 c.read.new.readings) ≡ image_in bytes =
-    rw e (image_stored bytes a.readings.now a.output.now a.work.now p c.read.ensures).1 in
-    let call : FilterCall (engine_for a.shape (length a.work.now)) a.shape 0 a.shape.rows (image_in bytes) a.output.now a.work.now c.run.result
-    c.run.new.output c.run.new.work =
-    rw (← image, ← c.engine_for-engine.ensures) c.run.ensures in
-    let rows = filtered-rows bytes a.readings.now a.output.now a.work.now p call in
-    record { readings = stored bytes a.readings.now a.output.now a.work.now p c.read.ensures; output = rows.0; work = rows.1 }
+pub slice_bounds-run-end-2 : goal.slice_bounds-run-end-2
+slice_bounds-run-end-2 c =
+    omega (arith, length-take c.area.result c.read.new.readings, image_room (passed (goal.at.slice_bounds-run-end-2 c).In_ok-shape) c.in_ok-read.ensures)
+
+pub returns-in_err-run : goal.returns-in_err-run
+returns-in_err-run c =
+    not_refused (sym (filter_passes (passed (goal.at.returns-in_err-run c).In_ok-shape) c.in_ok-read.ensures
+    (rw c.area.ensures refl) c.engine_for-engine.ensures c.in_err-run.ensures))
+
+pub returns-clause-memory : goal.returns-clause-memory
+returns-clause-memory c =
+    record_filtered (passed (goal.at.returns-clause-memory c).In_ok-shape) c.in_ok-read.ensures
+    (rw c.area.ensures refl) c.engine_for-engine.ensures c.run.ensures

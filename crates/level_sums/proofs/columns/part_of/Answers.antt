@@ -5,18 +5,18 @@ use native.Mathlib.Omega.{arith}
 use Rattle.cycle.proofs.SilenceLaws.{not_silent, heard-tick}
 use Rattle.level_sums.proofs.TableLaws.{part-tick, part-silent}
 use Rattle.level_sums.proofs.columns.part_of.Goals as goal
-use Rattle.level_sums.proofs.columns.part_of.Goals.{Else-y-eq-SILENT}
+use Rattle.level_sums.proofs.columns.part_of.Goals.{Else-reading-eq-SILENT}
 
 -- a reading that is not silent is a tick
-tick : (c : Else-y-eq-SILENT) → c.args.y < c.args.cycle
-tick c = heard-tick _ _ c.requires.1 (not_silent _ c.if-y-eq-SILENT.false)
+tick : (c : Else-reading-eq-SILENT) → c.args.reading < c.args.cycle
+tick c = heard-tick _ _ c.requires.reading (not_silent _ c.if-reading-eq-SILENT.false)
 
 pub overflow_sub-result : goal.overflow_sub-result
-overflow_sub-result c = omega (arith, tick (goal.at.overflow_sub-result c).Else-y-eq-SILENT, c.wide.ensures)
+overflow_sub-result c = omega (arith, tick (goal.at.overflow_sub-result c).Else-reading-eq-SILENT, c.from.ensures)
 
-pub returns-then-y-eq-SILENT : goal.returns-then-y-eq-SILENT
-returns-then-y-eq-SILENT c = part-silent c.requires.0 c.if-y-eq-SILENT.true refl
+pub returns-then-reading-eq-SILENT : goal.returns-then-reading-eq-SILENT
+returns-then-reading-eq-SILENT c = part-silent c.requires.limit c.if-reading-eq-SILENT.true refl
 
-pub returns-else-y-eq-SILENT : goal.returns-else-y-eq-SILENT
-returns-else-y-eq-SILENT c =
-    part-tick c.requires.0 (tick (goal.at.returns-else-y-eq-SILENT c).Else-y-eq-SILENT) (ap (λ (x : ℕ). c.args.cycle - x) c.wide.ensures)
+pub returns-else-reading-eq-SILENT : goal.returns-else-reading-eq-SILENT
+returns-else-reading-eq-SILENT c =
+    part-tick c.requires.limit (tick (goal.at.returns-else-reading-eq-SILENT c).Else-reading-eq-SILENT) (ap (λ (x : ℕ). c.args.cycle - x) c.from.ensures)

@@ -10,4 +10,4 @@ pub overflow_cast-tick : goal.overflow_cast-tick
 overflow_cast-tick c = let a = c.args in omega (arith, mod-lt a.k {m = a.cycle} (omega arith), c.wrapped-tick.ensures)
 
 pub returns : goal.returns
-returns c = let a = c.args in c.apart_by.ensures ∙ ap (λ (x : ℕ). distance a.cycle x 0) c.wrapped-tick.ensures
+returns c = let a = c.args in c.apart.ensures ∙ ap (λ (x : ℕ). distance a.cycle x 0) c.wrapped-tick.ensures

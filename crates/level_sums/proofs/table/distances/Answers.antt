@@ -1,8 +1,12 @@
--- `level_sums::table::distances` meets its contract. Assumes nothing.
-use borrow.Author.Rules.{rules}
-use Rattle.cycle.proofs.ListLaws.{listed_no}
+use native.Mathlib.Omega.{arith}
+use Rattle.level_sums.proofs.TableLaws.{filling-none, filling_turn, filling_all}
 use Rattle.level_sums.proofs.table.distances.Goals as goal
 
--- on another cycle nothing need be lent
-pub distances_by-requires-else-is_listed : goal.distances_by-requires-else-is_listed
-distances_by-requires-else-is_listed c = (search rules, search rules, listed_no _ _ c.is_listed.ensures c.if-is_listed.false)
+pub loop-k-init : goal.loop-k-init
+loop-k-init c = rw c.requires.zeros filling-none
+
+pub loop-k-preserved : goal.loop-k-preserved
+loop-k-preserved c = filling_turn c.loop-k.invariant (omega arith) (omega arith) c.requires.limit c.distance_at.ensures
+
+pub returns : goal.returns
+returns c = filling_all c.loop-k.invariant (omega arith)

@@ -1,11 +1,25 @@
--- `live_passes::sums::enter` meets its contract. Assumes nothing.
-use Rattle.std.proofs.Common.{refl}
-use Rattle.live_passes.proofs.Passes.{changed_last}
+-- `live_passes::sums::enter` meets its contract.
+use Rattle.std.proofs.Common.{◌≡◌, ◌+◌, get_or, refl, ◌∙◌, arith}
+use Rattle.memory.proofs.Memory.{begun_none, begun_more}
+use Rattle.live_passes.specs.Passes.{behind, distance_to}
+use Rattle.live_passes.proofs.Passes.{distances_none, distances_more, slid-here}
 use Rattle.live_passes.proofs.sums.enter.Goals as goal
 
-pub returns : goal.returns
-returns c =
-    let p = c.requires in
-    let n = c.args.n in
-    let e = c.slide-total.ensures in
-    record { changed = changed_last n _ p.0 p.1 e.changed refl; changed_2 = changed_last n _ p.0 p.2 e.changed_2 e.value }
+pub loop-k-init : goal.loop-k-init
+loop-k-init c = record { moved = begun_none; summed = begun_none; newest = distances_none _ _ _ }
+
+pub loop-k-preserved : goal.loop-k-preserved
+loop-k-preserved c =
+    let a = c.args in
+    let k = c.loop-k.k in
+    let now = c.loop-k.invariant in
+    let rs = a.readings.now in
+    let next : get_or c.loop-k.readings (k + 1) 0 ≡ behind rs k = now.moved.left (k + 1) (omega arith) in
+    let gain : c.apart-gain.result ≡ distance_to a.cycle a.newest rs k = c.apart-gain.ensures ∙ rw next refl in
+    let loss : c.apart-loss.result ≡ distance_to a.cycle (get_or rs 0 0) rs k = c.apart-loss.ensures ∙ rw next refl in
+    let sum : get_or c.loop-k.sums (k + 1) 0 ≡ get_or a.sums.now (k + 1) 0 = now.summed.left (k + 1) (omega arith) in
+    record {
+      moved = begun_more now.moved _ (omega arith) next;
+      summed = begun_more now.summed _ (omega arith) (slid-here a.cycle a.newest rs a.sums.now k sum gain loss);
+      newest = distances_more a.cycle a.newest rs k now.newest gain refl;
+    }

@@ -1,12 +1,16 @@
 -- `reading::rows::carry_rows` meets its contract: mask row after mask row has the sums of row i, and the others still those of the row
 -- before it. Assumes nothing.
-use Prim.Native.Nat.{◌+◌, ◌-◌, ◌≤◌}
+use Prim.Native.Nat.{◌+◌, ◌-◌}
+use Rattle.lines.specs.Lines.{PaddedLine}
 use Rattle.reading_planes.specs.Sums.{MaskSums}
 use Rattle.reading.proofs.Kept.{MaskRows}
 use Rattle.reading.proofs.rows.carry_rows.Given as goal
 
 abbrev pub invariant-loop-k : goal.invariant-loop-k
-invariant-loop-k l = (l.k ≤ l.kept) × MaskRows l.shape l.image l.i l.k l.initial.work l.work l.own l.change l.step l.least l.nearest × MaskSums l.shape l.image (l.i - 1) l.work (l.i + l.k) (l.i + l.kept)
-
-abbrev pub decreases-loop-k : goal.decreases-loop-k
-decreases-loop-k l = l.kept - l.k
+invariant-loop-k l = let s = l.row.image.shape in let image = l.row.image.readings.now in
+    record {
+      done : MaskRows s image l.row.i l.k l.initial.work l.work l.memory.best.least l.memory.best.nearest;
+      left : MaskSums s image (l.row.i - 1) l.work (l.row.i + l.k) (l.row.i + l.kept);
+      entering : PaddedLine s image (l.row.i + s.mask_rows - 1) l.memory.last;
+      leaving : PaddedLine s image (l.row.i - 1) l.memory.row;
+    }

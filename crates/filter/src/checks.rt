@@ -1,0 +1,59 @@
+// The tests of a filter in rising order: 1 to 3 on the shape, then 5 to 9.
+ghost use Rattle.std.specs.Prelude.{◌≡◌};
+ghost use Rattle.refusal.specs.Outcome.{first_due, outcome};
+ghost use Rattle.filter.specs.Calls.{memory_rules, image_rules, room_due, filter_due};
+
+use crate::Engine;
+use cycle::check_readings;
+use refusal::Refusal;
+use shape::{Shape, check_buffer, check_input, check_rows, check_work};
+use std::ops::Range;
+
+// 7 and 8, where so many numbers of output and of work memory are needed.
+fn check_memory(phases: usize, need: usize, output: usize, work: usize) -> Result<(), Refusal>
+    ensures { outcome result ≡ first_due (memory_rules phases need output work) tt }
+{
+    check_buffer(phases, output)?;
+    check_work(need, work)
+}
+
+// 5 to 9, for an engine that needs so many numbers of work memory.
+fn check_image(
+    shape: Shape,
+    need: usize,
+    rows: &Range<u32>,
+    input: &[u16],
+    output: usize,
+    work: usize,
+) -> Result<(), Refusal>
+    ensures { outcome result ≡ first_due (image_rules shape need rows.now.start rows.now.end input.now output work) tt }
+{
+    let area = shape.area();
+    check_rows(shape.rows, rows)?;
+    check_input(area, input.len())?;
+    check_memory(area, need, output, work)?;
+    check_readings(shape.cycle, input)
+}
+
+// Whether an engine filters a good image of that shape, with so much output and work memory: 1 to 3, 7, 8.
+pub fn check_room(engine: Engine, shape: Shape, output: usize, work: usize) -> Result<(), Refusal>
+    ensures { outcome result ≡ room_due engine shape output work }
+{
+    engine.check(shape)?;
+    check_memory(shape.area(), engine.need(shape), output, work)
+}
+
+// All tests of a call of an engine.
+pub fn check_filter(
+    engine: Engine,
+    shape: Shape,
+    rows: &Range<u32>,
+    input: &[u16],
+    output: usize,
+    work: usize,
+) -> Result<(), Refusal>
+    ensures { outcome result ≡ filter_due engine shape rows.now.start rows.now.end input.now output work }
+{
+    engine.check(shape)?;
+    check_image(shape, engine.need(shape), rows, input, output, work)
+}

@@ -1,5 +1,0 @@
--- `level::rows::fill` never calls itself, so any measure will do.
-use Rattle.level.proofs.rows.+fill.Given as goal
-
-abbrev pub decreases-fill : goal.decreases-fill
-decreases-fill l = 0

@@ -1,0 +1,6 @@
+-- `lines::image::Image::at` meets its contract. Assumes nothing.
+use Rattle.lines.proofs.Padding.{padded-reads}
+use Rattle.lines.proofs.image.Image.at.Goals as goal
+
+pub returns : goal.returns
+returns c = rw c.row-row.ensures (padded-reads _ _ _ c.row_at.ensures.place _ c.column_at.ensures.place c.column_at.ensures.within)

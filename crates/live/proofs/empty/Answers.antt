@@ -1,6 +1,0 @@
--- `live::empty` meets its contract. Assumes nothing.
-use Rattle.live.proofs.Calls.{empty_window}
-use Rattle.live.proofs.empty.Goals as goal
-
-pub returns : goal.returns
-returns c = empty_window c.args.cycle c.args.length

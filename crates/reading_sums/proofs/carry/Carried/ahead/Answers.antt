@@ -1,0 +1,75 @@
+use Prim.Native.Nat.{◌+◌, ◌-◌, ◌*◌, ◌/◌, ◌<◌}
+use mathlib.Core.Path.{◌∙◌}
+use native.Mathlib.Omega.{arith}
+use Rattle.std.proofs.Common.{rules}
+use Rattle.memory.proofs.Memory.{changed_part, part-reads}
+use Rattle.reading_planes.specs.Planes.{held}
+use Rattle.reading_planes.proofs.Sums.{plane_within, sizes, line_room}
+use Rattle.reading_planes.proofs.Sweeps.{behind-none}
+use Rattle.reading_sums.proofs.Measured.{measurable}
+use Rattle.reading_sums.proofs.SweepAhead.{sweep_none, sweep_held, sweep_more, sweep_all}
+use Rattle.reading_sums.proofs.Turns.{cleared, steps-read, moved-part, counted-steps}
+use Rattle.reading_sums.proofs.carry.Carried.ahead.Goals as goal
+use Rattle.reading_sums.proofs.carry.Carried.ahead.Goals.{In-loop-m}
+
+pub loop-m-init : goal.loop-m-init
+loop-m-init c =
+    let s = c.args.self.now.shape in
+    let start = cleared {z = c.args.changes.now} _ c.fill.new.self (omega (arith, line_room s c.requires.accepted)) c.fill.ensures.len (search rules) in
+    record { sweep = sweep_none (λ p. omega arith) start; long = start.len ∙ c.told-changes }
+
+pub steps-requires-clause-by_entering : goal.steps-requires-clause-by_entering
+steps-requires-clause-by_entering c =
+    let s = c.args.self.now in
+    let x = c.requires.lines in
+    let odd = (sizes s.shape c.requires.accepted).mask_columns_odd in
+    measurable s.shape c.requires.accepted x.own_reads x.entering_reads x.entering_plain 0 c.loop-m.m _ _ (omega arith) (omega (arith, odd)) (omega (arith, odd))
+
+pub steps-requires-clause-by_leaving : goal.steps-requires-clause-by_leaving
+steps-requires-clause-by_leaving c =
+    let s = c.args.self.now in
+    let x = c.requires.lines in
+    let odd = (sizes s.shape c.requires.accepted).mask_columns_odd in
+    measurable s.shape c.requires.accepted x.own_reads x.leaving_reads x.leaving_plain 0 c.loop-m.m _ _ (omega arith) (omega (arith, odd)) (omega (arith, odd))
+
+pub loop-m-preserved : goal.loop-m-preserved
+loop-m-preserved c =
+    let a = c.args.self.now in
+    let s = a.shape in
+    let m = c.loop-m.m in
+    let l = s.mask_columns - 1 - m in
+    let room = line_room s c.requires.accepted in
+    let steps = c.steps.new.steps in
+    let long = c.loop-m.invariant.long in
+    let taken = steps-read s.cycle a.own.now a.entering.now a.leaving.now 0 m _ _ (s.columns + l) (omega arith) (omega arith)
+    (omega (arith, c.requires.lines.own_reads.len, room)) c.steps.ensures in
+    let lower = moved-part {z = c.loop-m.changes} steps (s.cycle / 2) 0 _ l 0 _ c.move_on.new.changes (omega (arith, long, room)) (omega arith) (omega arith)
+    c.move_on.auto.changes c.move_on.ensures in
+    let upper = moved-part steps (s.cycle / 2) l _ s.columns l _ c.move_add.new.changes (omega (arith, long, room, lower.len)) (omega arith) (omega arith)
+    c.move_add.auto.changes c.move_add.ensures.changes_moved in
+    let done = counted-steps s.cycle a.own.now a.entering.now a.leaving.now steps 0 m l s.columns (omega arith) (omega arith) taken lower upper in
+    let plane = changed_part {w = c.loop-m.planes} {base = l * s.columns} {n = s.columns} c.move_add.new.plane
+    (omega (arith, plane_within s l (omega arith), c.requires.all_planes, c.loop-m.auto.planes)) (omega arith) c.move_add.auto.plane c.move_add.ensures.plane_summed in
+    let stored = changed_part {base = l} {n = s.columns} c.move_add.new.changes (omega (arith, long, room, lower.len)) (omega arith) c.move_add.auto.changes
+    c.move_add.ensures.changes_moved in
+    let base = l * s.columns in
+    record {
+      sweep = sweep_more c.loop-m.invariant.sweep c.loop-m-test.true (held s c.args.planes.now l) done plane
+          (λ j h.
+          let inside : j < base + s.columns - base = omega arith in
+          rw (
+            part-reads c.loop-m.planes base (base + s.columns - base) j inside,
+            sweep_held c.loop-m.invariant.sweep c.loop-m-test.true j h,
+            ← (stored.holds j h),
+          ))
+          (λ j h. omega arith);
+      long = upper.len ∙ lower.len ∙ long;
+    }
+
+pub returns-clause-fronts : goal.returns-clause-fronts
+returns-clause-fronts c = sweep_all c.loop-m.invariant.sweep (omega (arith, c.loop-m-test.false))
+
+pub returns-clause-behind : goal.returns-clause-behind
+returns-clause-behind c =
+    let s = c.args.self.now.shape in
+    behind-none s _ _ (cleared {z = c.loop-m.changes} _ c.fill-2.new.self (omega (arith, line_room s c.requires.accepted, c.loop-m.invariant.long)) c.fill-2.ensures.len (search rules))

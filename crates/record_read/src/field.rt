@@ -1,0 +1,26 @@
+// The tests of one field of a record.
+ghost use Rattle.std.specs.Prelude.{◌≡◌};
+ghost use Rattle.refusal.specs.Outcome.{first_due, outcome};
+ghost use Rattle.record_format.specs.Reading.{field_rules};
+
+use record_format::layout::{HEAD_LENGTH, TAG_LENGTH};
+use record_format::{Tag, number_at};
+use refusal::{Refusal, refuse_if};
+
+// The tests of a field at an offset, where a tag and a length are due.
+#[tactic(auto, using(refusal::proofs::Outcome::tests), unfolding(refusal::specs::Outcome::first_due))]
+pub fn check_field(bytes: &[u8], at: usize, tag: Tag, due: usize) -> Result<(), Refusal>
+    ensures { outcome result ≡ first_due (field_rules bytes.now at tag due) tt }
+{
+    let left = bytes.len().saturating_sub(at);
+    if left < HEAD_LENGTH {
+        return Err(Refusal::Cut(at));
+    }
+    if bytes[at] != tag.byte() {
+        return Err(Refusal::Tag(at));
+    }
+    if number_at(bytes, at + TAG_LENGTH) as usize != due {
+        return Err(Refusal::Length(at));
+    }
+    refuse_if(left - HEAD_LENGTH < due, Refusal::Cut(at))
+}
