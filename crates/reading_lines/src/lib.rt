@@ -4,9 +4,9 @@
 // meets.
 #![tactic(auto)]
 
-ghost use Rattle.std.specs.Prelude.{◌≡◌, ◌/◌, ◌≤◌, length};
+ghost use Rattle.std.specs.Prelude.{◌≡◌, ◌+◌, ◌/◌, ◌≤◌, length};
 ghost use Rattle.memory.specs.Memory.{Each, Changed};
-ghost use Rattle.memory.specs.Parts.{added, summed};
+ghost use Rattle.memory.specs.Parts.{added, summed, copied};
 ghost use Rattle.reading_lines.specs.Passes.{Measurable, between, between_two, stepped, moved, mark, marks};
 
 use cycle::SILENT;
@@ -103,13 +103,13 @@ pub fn move_on(changes: &mut [u32], steps: &[u16], half: u32)
     }
 }
 
-// The same, and adds the changes to a plane.
-pub fn move_add(changes: &mut [u32], steps: &[u16], half: u32, plane: &mut [u32])
-    requires same_length { length changes.old ≡ length plane.old }
-    requires steps_long { length plane.old ≤ length steps.now }
+// The same, and adds the changes from place `at` on to a plane.
+pub fn move_add(changes: &mut [u32], steps: &[u16], half: u32, at: usize, plane: &mut [u32])
+    requires steps_long { length changes.old ≤ length steps.now }
+    requires changes_long { at + length plane.old ≤ length changes.old }
     ensures changes_moved { Each changes.new (moved changes.old steps.now half) }
-    ensures plane_summed { Each plane.new (summed plane.old (moved changes.old steps.now half)) }
+    ensures plane_summed { Each plane.new (summed plane.old (copied changes.new at)) }
 {
     move_on(changes, steps, half);
-    add(plane, changes);
+    add(plane, &changes[at..]);
 }
