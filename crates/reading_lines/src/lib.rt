@@ -11,7 +11,7 @@ ghost use Rattle.reading_lines.specs.Passes.{Measurable, between, between_two, s
 
 use cycle::SILENT;
 use median::share_of;
-use memory::NO_SUM;
+use memory::{NO_SUM, add};
 
 // What the readings of a line gain by those of a row.
 pub fn distances(cycle: u16, own: &[u16], row: &[u16], gains: &mut [u16], plain: bool)
@@ -110,9 +110,6 @@ pub fn move_add(changes: &mut [u32], steps: &[u16], half: u32, plane: &mut [u32]
     ensures changes_moved { Each changes.new (moved changes.old steps.now half) }
     ensures plane_summed { Each plane.new (summed plane.old (moved changes.old steps.now half)) }
 {
-    for (j, sum) in plane.iter_mut().enumerate() {
-        let next = changes[j].wrapping_add(steps[j] as u32).wrapping_sub(half);
-        changes[j] = next;
-        *sum = sum.wrapping_add(next);
-    }
+    move_on(changes, steps, half);
+    add(plane, changes);
 }
