@@ -24,7 +24,7 @@ use std::io::{BufWriter, Write};
 use tally::Tally;
 
 // What was counted of each engine's calls.
-#[derive(Clone, Copy, Debug)]
+#[derive(Clone, Copy, Debug, Default)]
 struct Counts {
     images: usize,
     level: Tally,
@@ -32,14 +32,6 @@ struct Counts {
 }
 
 impl Counts {
-    fn new() -> Counts {
-        Counts {
-            images: 0,
-            level: Tally::new(),
-            reading: Tally::new(),
-        }
-    }
-
     fn differences(&self) -> usize {
         self.level
             .differences
@@ -73,7 +65,7 @@ fn run_engine(
 }
 
 fn run_all(alloc: Global, numbers: &[u16]) -> Result<Counts, AllocError> {
-    let mut counts = Counts::new();
+    let mut counts = Counts::default();
     for case in Cases(numbers) {
         let call = counts.images.saturating_mul(2);
         run_engine(alloc, &mut counts.level, Engine::Level, &case, call)?;

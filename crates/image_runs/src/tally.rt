@@ -4,7 +4,7 @@ use crate::memory::Memory;
 use refusal::Refusal;
 use std::fmt;
 
-#[derive(Clone, Copy, Debug)]
+#[derive(Clone, Copy, Debug, Default)]
 pub struct Tally {
     filtered: usize,
     refused: usize,
@@ -31,20 +31,6 @@ fn differences<T: PartialEq>(a: &[T], b: &[T]) -> usize {
 }
 
 impl Tally {
-    pub fn new() -> Tally {
-        Tally {
-            filtered: 0,
-            refused: 0,
-            rows: 0,
-            phases: 0,
-            moved: 0,
-            kept: 0,
-            zeros: 0,
-            spared: 0,
-            differences: 0,
-        }
-    }
-
     // Counts the answer of a call beside the one that is due.
     pub fn add_answer(&mut self, answer: Result<(), Refusal>, due: Result<(), Refusal>) {
         match answer {

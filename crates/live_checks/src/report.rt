@@ -13,7 +13,7 @@ impl<W: Write> Report<W> {
     pub fn new(out: W) -> Report<W> {
         Report {
             out,
-            tally: Tally::new(),
+            tally: Tally::default(),
         }
     }
 

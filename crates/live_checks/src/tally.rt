@@ -1,7 +1,7 @@
 // What the runs count: the pushes, those of them that were refused, the comparisons, and those that found a difference.
 use std::fmt;
 
-#[derive(Clone, Copy, Debug)]
+#[derive(Clone, Copy, Debug, Default)]
 pub struct Tally {
     pushes: usize,
     refused: usize,
@@ -10,15 +10,6 @@ pub struct Tally {
 }
 
 impl Tally {
-    pub fn new() -> Tally {
-        Tally {
-            pushes: 0,
-            refused: 0,
-            compared: 0,
-            differences: 0,
-        }
-    }
-
     pub fn push(&mut self, refused: bool) {
         self.push_row(1);
         self.refused = self.refused.saturating_add(usize::from(refused));
