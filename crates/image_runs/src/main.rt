@@ -11,12 +11,12 @@
 #![tactic(auto)]
 
 mod case;
-mod memory;
+mod lent;
 mod tally;
 
 use case::{Case, Cases};
 use filter::Engine;
-use memory::Memory;
+use lent::Memory;
 use runs::input;
 use std::alloc::{AllocError, Global};
 use std::io;

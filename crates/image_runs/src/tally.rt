@@ -1,6 +1,6 @@
 // What is counted of an engine's calls.
 use crate::case::{Case, Due};
-use crate::memory::Memory;
+use crate::lent::Memory;
 use refusal::Refusal;
 use std::fmt;
 
