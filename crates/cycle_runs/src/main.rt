@@ -40,7 +40,7 @@ fn run_line(out: &mut impl Write, alloc: Global, line: &str) -> io::Result<()> {
 
 fn run(rt: &(impl Input + Print + AllocGlobal)) -> io::Result<()> {
     let alloc = rt.alloc();
-    let cases = input::text(rt);
+    let cases = input::text(rt)?;
     let mut out = BufWriter::new(alloc, io::writer(rt))?;
     for line in cases.lines() {
         run_line(&mut out, alloc, line)?;

@@ -54,7 +54,7 @@ fn run_case(out: &mut impl Write, alloc: Global, case: &Case) -> io::Result<()> 
 
 fn run(rt: &(impl Input + Print + AllocGlobal)) -> io::Result<()> {
     let alloc = rt.alloc();
-    let cases = input::text(rt);
+    let cases = input::text(rt)?;
     let mut out = BufWriter::new(alloc, io::writer(rt))?;
     for line in cases.lines() {
         match Case::parse(alloc, line)? {

@@ -53,7 +53,7 @@ fn run_case<W: Write>(report: &mut Report<W>, alloc: Global, case: &Case) -> io:
 
 fn run(rt: &(impl Input + Print + AllocGlobal)) -> io::Result<()> {
     let alloc = rt.alloc();
-    let cases = input::text(rt);
+    let cases = input::text(rt)?;
     let mut report = Report::new(BufWriter::new(alloc, io::writer(rt))?);
     for line in cases.lines() {
         write!(report.out, "{line} ->")?;

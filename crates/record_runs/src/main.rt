@@ -36,7 +36,7 @@ fn answer(out: &mut impl Write, alloc: Global, case: &Case, last: &Lent) -> io::
 
 fn run(rt: &(impl Input + Print + AllocGlobal)) -> io::Result<()> {
     let alloc = rt.alloc();
-    let cases = input::text(rt);
+    let cases = input::text(rt)?;
     let mut out = BufWriter::new(alloc, io::writer(rt))?;
     let mut last = Lent {
         record: Vec::new(alloc),

@@ -1,4 +1,5 @@
 // Standard input, read whole.
+use std::alloc::AllocError;
 use std::io::Read;
 
 // The bytes of standard input, as far as it can be read.
@@ -8,9 +9,7 @@ pub fn bytes(rt: &(impl Input + AllocGlobal)) -> Vec<u8> {
     bytes
 }
 
-// The text of standard input, as far as it can be read.
-pub fn text(rt: &(impl Input + AllocGlobal)) -> String {
-    let mut text = String::new(rt.alloc());
-    let _ = rt.reader().read_to_string(&mut text);
-    text
+// The text of standard input, as far as it can be read. What is no text in it stands as U+FFFD.
+pub fn text(rt: &(impl Input + AllocGlobal)) -> Result<String, AllocError> {
+    String::from_utf8_lossy(rt.alloc(), &bytes(rt))
 }
