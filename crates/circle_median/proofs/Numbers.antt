@@ -8,7 +8,7 @@ use native.Mathlib.Omega.{arith}
 use lib.IntN.{ℤ, pos}
 use lib.ListN.{length}
 use Rattle.lists.proofs.Keep.{passes_or_not}
-use Rattle.refusal.specs.Outcome.{Outcome, Rule, first_due, Clear, Numbered}
+use Rattle.refusal.specs.Outcome.{Outcome, Rule, first_due, outcome, Clear, Numbered}
 use Rattle.refusal.specs.Outcome.Outcome.{accepted, refused}
 use Rattle.refusal.proofs.Outcome.{accepted_clear, accepted_value}
 use Rattle.refusal.proofs.Order.{due_numbered}
@@ -25,10 +25,11 @@ use Rattle.filter.proofs.Order.{filter_numbered}
 use Rattle.filter.proofs.Demand3.{same_rows}
 use Rattle.cycle.specs.Silence.{is_reading}
 use Rattle.live.specs.declared.LiveWindow.{LiveWindow}
-use Rattle.live.specs.Window.{LiveResult, result_after}
-use Rattle.live.specs.Calls.{window_rules, push_rules, fresh_due, live_told, whether_accepted, Live, FreshCall}
+use Rattle.live.specs.declared.Live.{Live}
+use Rattle.live.specs.Window.{result_after}
+use Rattle.live.specs.Calls.{window_rules, push_rules, fresh_due, whether_accepted, Ours, FreshCall}
 use Rattle.live.proofs.Order.{window_numbered, push_numbered}
-use Rattle.live.proofs.Pushes.{accepted-told, accepted_live, refused-told}
+use Rattle.live.proofs.Pushes.{accepted-told, accepted_ours, refused-told}
 use Rattle.record_format.specs.Record.{record_length, write_rules, write_due}
 use Rattle.record_format.specs.Reading.{shape_in, read_rules, read_due}
 use Rattle.record_format.proofs.Order.{write_numbered, read_numbered}
@@ -115,7 +116,7 @@ read_zero {bytes} {buffer} call zero =
     (record { answer = sym said; memory = call.memory }, call.answer ∙ ap record_of said)
 
 -- a live window made fresh with the number 0 is one of ours
-pub window_fresh_zero : {c t : ℕ} {w : LiveWindow} {r : Answer} {w₁ : LiveWindow} → ExportedFreshCall c t w r w₁ → r.number ≡ 0 → FreshCall c t w Fresh w₁
+pub window_fresh_zero : {c t : ℕ} {w : LiveWindow} {r : Answer} {w₁ : LiveWindow} → ExportedFreshCall c t w r w₁ → r.number ≡ 0 → FreshCall c t w (Ok tt) w₁
 unfolding fresh_due
 window_fresh_zero {c} {t} call zero =
     let said = zero_accepted answer_of (λ a. a.number) (λ n k. refl) tt (window_rules c t) (window_numbered c t) call.answer zero in
@@ -124,29 +125,29 @@ window_fresh_zero {c} {t} call zero =
 -- a push that answers 0 was accepted, whatever the window: no test is due
 pub window_push_clear : {w : LiveWindow} {x : ℕ} {r : WindowAnswer} {w₁ : LiveWindow} → ExportedPushCall w x r w₁ → r.number ≡ 0
     → Clear (push_rules w.cycle w.length x)
-window_push_clear {w} {x} {r} call zero = go (live_told call.told) refl
+window_push_clear {w} {x} {r} call zero = go (outcome call.told) refl
   where
     rs : List Rule
     rs = push_rules w.cycle w.length x
 
-    go : (o : Outcome LiveResult) → live_told call.told ≡ o → Clear (push_rules w.cycle w.length x)
+    go : (o : Outcome Live) → outcome call.told ≡ o → Clear (push_rules w.cycle w.length x)
     go (accepted v) said = accepted_clear tt rs tt (sym call.call.tests ∙ ap whether_accepted said)
     go (refused n k) said =
-        let n-is : r.number ≡ n = ap (λ (a : WindowAnswer). a.number) call.answer ∙ ap (λ (o : Outcome LiveResult). (value_of (lived o)).number) said in
+        let n-is : r.number ≡ n = ap (λ (a : WindowAnswer). a.number) call.answer ∙ ap (λ (o : Outcome Live). (value_of (lived o)).number) said in
         let due : first_due rs tt ≡ refused n k = sym call.call.tests ∙ ap whether_accepted said in
         absurd (omega (arith, zero, n-is, due_numbered tt rs (push_numbered w.cycle w.length x) due))
 
 -- a push into a window of ours that answers 0 was accepted: its value is that of the longer history, of which the window is live
-module _ {c t : ℕ} {history : List ℕ} {w : LiveWindow} {x : ℕ} {r : WindowAnswer} {w₁ : LiveWindow} (live : Live c t history w)
+module _ {c t : ℕ} {history : List ℕ} {w : LiveWindow} {x : ℕ} {r : WindowAnswer} {w₁ : LiveWindow} (ours : Ours c t history w)
     (call : ExportedPushCall w x r w₁) (zero : r.number ≡ 0) where
   reads : is_reading c x ≡ true
   reads = passes_or_not (is_reading c) x (λ e. e) (λ e.
       let told : r.number ≡ 9 =
-      ap (λ (a : WindowAnswer). a.number) call.answer ∙ ap (λ (o : Outcome LiveResult). (value_of (lived o)).number) (refused-told live call.call e) in
+      ap (λ (a : WindowAnswer). a.number) call.answer ∙ ap (λ (o : Outcome Live). (value_of (lived o)).number) (refused-told ours call.call e) in
       absurd (omega arith))
 
-  pub window_push_zero : (r.value ≡ live_value (result_after c t (history ++ (x ∷ [])))) × Live c t (history ++ (x ∷ [])) w₁
+  pub window_push_zero : (r.value ≡ live_value (result_after c t (history ++ (x ∷ [])))) × Ours c t (history ++ (x ∷ [])) w₁
   window_push_zero = (
-    ap (λ (a : WindowAnswer). a.value) call.answer ∙ ap (λ (o : Outcome LiveResult). (value_of (lived o)).value) (accepted-told live call.call reads),
-    accepted_live live call.call reads,
+    ap (λ (a : WindowAnswer). a.value) call.answer ∙ ap (λ (o : Outcome Live). (value_of (lived o)).value) (accepted-told ours call.call reads),
+    accepted_ours ours call.call reads,
   )

@@ -1,5 +1,5 @@
 // The structs that C sees, and what the calls answer turned into them.
-ghost use Rattle.std.specs.Prelude.{◌≡◌};
+ghost use Rattle.std.specs.Prelude.{◌≡◌, ◌<◌, ◌^◌, pos};
 ghost use Rattle.refusal.specs.Outcome.{outcome};
 ghost use Rattle.circle_median.specs.Answers.{answer_of, value_of, record_of, live_value, lived, window_answer_of};
 
@@ -110,6 +110,14 @@ impl From<Result<Shape, Refusal>> for RecordAnswer {
             },
         }
     }
+}
+
+// The length of a record as a value.
+pub fn length_value(length: usize) -> i64
+    requires { length < 2 ^ 63 }
+    ensures { result ≡ pos length }
+{
+    length as i64
 }
 
 // What a live window answers as a value.

@@ -11,7 +11,7 @@ ghost use Rattle.live.specs.Window.{window_of};
 ghost use Rattle.circle_median.specs.Answers.{shape_of, value_of, natural, flag};
 ghost use Rattle.circle_median.specs.Calls.{ExportedFilterCall, ExportedWriteCall, ExportedReadCall, ExportedFreshCall, ExportedPushCall};
 
-use answers::{Answer, RecordAnswer, ValueAnswer, WindowAnswer, window_answer};
+use answers::{Answer, RecordAnswer, ValueAnswer, WindowAnswer, length_value, window_answer};
 use live::PLACES;
 use shape::Shape;
 
@@ -120,7 +120,7 @@ pub extern "C" fn circle_median_write(
         mask_columns,
     };
     record::write(shape, readings, bytes)
-        .map(|length| length as i64)
+        .map(length_value)
         .into()
 }
 

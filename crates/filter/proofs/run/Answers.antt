@@ -1,8 +1,9 @@
 -- `filter::run` meets its contract: a refusal returns at once; else the engine's rows, and the needed work memory zeroed.
 use Rattle.std.proofs.Common.{◌≡◌, ◌≤◌, length, sym, arith, length-take-le, take}
 use Rattle.refusal.specs.Outcome.Outcome.{accepted}
+use Rattle.lines.proofs.Given.{ready_wider}
 use Rattle.filter.specs.Calls.{filter_due, need}
-use Rattle.filter.proofs.CallLaws.{Image, ready_longest, front-zeroed, zeroed, tests_clear, call-tested, call-ready, limit-fits}
+use Rattle.filter.proofs.CallLaws.{Image, front-zeroed, zeroed, tests_clear, call-tested, call-ready, limit-fits}
 use Rattle.filter.proofs.run.Goals as goal
 use Rattle.filter.proofs.run.Goals.{In_ok-check_filter}
 
@@ -18,7 +19,7 @@ tested c = let a = c.args in call-tested a.engine a.shape a.rows.start a.rows.en
 pub invariant_of-image : goal.invariant_of-image
 invariant_of-image c =
     let a = c.args in
-    record { ready = ready_longest (limit-fits a.engine) (call-ready a.engine a.shape a.rows.start a.rows.end a.input.now _ _ (said c)) }
+    record { ready = ready_wider (limit-fits a.engine) (call-ready a.engine a.shape a.rows.start a.rows.end a.input.now _ _ (said c)) }
 
 pub fill-requires : goal.fill-requires
 fill-requires c =
