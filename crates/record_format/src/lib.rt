@@ -1,4 +1,6 @@
-// Numbers and fields as bytes: each number two bytes, high byte first. Internal: the tests are the caller's.
+// Numbers and fields as bytes: each number two bytes, high byte first. Offsets count from the start of the
+// record, as the place of a refusal does, so a function takes an offset and not the part of the bytes behind it.
+// Internal: the tests are the caller's.
 #![tactic(auto)]
 
 pub mod layout;

@@ -73,9 +73,10 @@ fn mask_side(bytes: &[u8], at: usize, default: u32) -> u32
     ensures { result ≡ mask_side_in bytes.now at default }
 {
     if mask_due(bytes) == 0 {
-        return default;
+        default
+    } else {
+        number_at(bytes, at) as u32
     }
-    number_at(bytes, at) as u32
 }
 
 // The five numbers of a record whose first three fields are there.
@@ -100,7 +101,8 @@ pub fn check_head(bytes: &[u8], room: usize) -> Result<Shape, Refusal>
     check_size_field(bytes)?;
     check_mask_field(bytes)?;
     let shape = shape_in(bytes);
+    let need = shape.area();
     shape.check_mask()?;
-    check_buffer(shape.area(), room)?;
+    check_buffer(need, room)?;
     Ok(shape)
 }

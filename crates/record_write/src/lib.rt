@@ -44,8 +44,9 @@ pub fn check_write(shape: Shape, readings: &[u16], room: usize) -> Result<(), Re
     ensures { outcome result ≡ first_due (write_rules shape readings.now room) tt }
 {
     shape.check(LONGEST_CYCLE)?;
+    let need = length_of(shape);
     check_input(shape.area(), readings.len())?;
-    check_buffer(length_of(shape), room)?;
+    check_buffer(need, room)?;
     check_readings(shape.cycle, readings)
 }
 

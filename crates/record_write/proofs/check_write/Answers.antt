@@ -12,6 +12,9 @@ returns-in_err-check c =
     let a = c.args in
     handed_on (shape_rules longest_cycle a.shape) tt (call_rules a.shape a.readings.now a.room) c.in_err-check.ensures (search rules)
 
+pub length_of-need-requires : goal.length_of-need-requires
+length_of-need-requires c = passed_clear (shape_rules longest_cycle c.args.shape) c.in_ok-check.ensures
+
 pub returns-in_err-check_input : goal.returns-in_err-check_input
 returns-in_err-check_input c =
     let a = c.args in
@@ -20,15 +23,12 @@ returns-in_err-check_input c =
     passed_first (shape_rules longest_cycle s) tt (call_rules s a.readings.now a.room) c.in_ok-check.ensures
     (handed_on _ tt (buffer_rule (record_length s) a.room ∷ reading_rule s.cycle a.readings.now ∷ []) input (search rules))
 
-pub length_of-requires : goal.length_of-requires
-length_of-requires c = passed_clear (shape_rules longest_cycle c.args.shape) c.in_ok-check.ensures
-
 pub returns-in_err-check_buffer : goal.returns-in_err-check_buffer
 returns-in_err-check_buffer c =
     let a = c.args in
     let s = a.shape in
     let input = rw c.area.ensures at c.in_ok-check_input.ensures in
-    let buffer = rw c.length_of.ensures at c.in_err-check_buffer.ensures in
+    let buffer = rw c.length_of-need.ensures at c.in_err-check_buffer.ensures in
     passed_first (shape_rules longest_cycle s) tt (call_rules s a.readings.now a.room) c.in_ok-check.ensures
     (passed_first _ tt (buffer_rule (record_length s) a.room ∷ reading_rule s.cycle a.readings.now ∷ []) input
     (handed_on _ tt (reading_rule s.cycle a.readings.now ∷ []) buffer (search rules)))
@@ -38,7 +38,7 @@ returns c =
     let a = c.args in
     let s = a.shape in
     let input = rw c.area.ensures at c.in_ok-check_input.ensures in
-    let buffer = rw c.length_of.ensures at c.in_ok-check_buffer.ensures in
+    let buffer = rw c.length_of-need.ensures at c.in_ok-check_buffer.ensures in
     passed_first (shape_rules longest_cycle s) tt (call_rules s a.readings.now a.room) c.in_ok-check.ensures
     (passed_first _ tt (buffer_rule (record_length s) a.room ∷ reading_rule s.cycle a.readings.now ∷ []) input
     (passed_first _ tt (reading_rule s.cycle a.readings.now ∷ []) buffer c.check_readings.ensures))

@@ -71,7 +71,7 @@ pub returns-in_err-check_buffer : goal.returns-in_err-check_buffer
 returns-in_err-check_buffer c =
     let s = shape_in c.args.bytes.now in
     let sides = rw c.shape_in-shape.ensures at c.in_ok-check_mask.ensures in
-    let buffer = rw (c.area.ensures, c.shape_in-shape.ensures) at c.in_err-check_buffer.ensures in
+    let buffer = rw (c.area-need.ensures, c.shape_in-shape.ensures) at c.in_err-check_buffer.ensures in
     values-left (goal.at.returns-in_err-check_buffer c).In_ok-check_mask_field
     (passed_first (mask_rules s.mask_rows s.mask_columns) s (buffer_rule (area s) c.args.room ∷ []) sides
     (handed_alone (buffer_rule (area s) c.args.room ∷ []) s buffer (search rules)))
@@ -80,7 +80,7 @@ pub returns : goal.returns
 returns c =
     let s = shape_in c.args.bytes.now in
     let sides = rw c.shape_in-shape.ensures at c.in_ok-check_mask.ensures in
-    let buffer = rw (c.area.ensures, c.shape_in-shape.ensures) at c.in_ok-check_buffer.ensures in
+    let buffer = rw (c.area-need.ensures, c.shape_in-shape.ensures) at c.in_ok-check_buffer.ensures in
     values-left (goal.at.returns c).In_ok-check_mask_field
     (passed_first (mask_rules s.mask_rows s.mask_columns) s (buffer_rule (area s) c.args.room ∷ []) sides
     (rw c.shape_in-shape.ensures (passed_alone (buffer_rule (area s) c.args.room ∷ []) s buffer)))

@@ -1,7 +1,8 @@
-use Rattle.std.proofs.Common.{◌≡◌, ◌<◌, length, get_or, sym, ap, ◌∙◌, arith, lt-ltb, le-ltb}
+use Rattle.std.proofs.Common.{◌+◌, ◌*◌, ◌≡◌, ◌<◌, length, get_or, sym, ap, ◌∙◌, arith, lt-ltb, le-ltb}
 use Rattle.lists.specs.First.{first_bad}
 use Rattle.lists.proofs.First.{first_here, first_later, first-none}
 use Rattle.refusal.specs.Outcome.{first_due}
+use Rattle.refusal.specs.Outcome.Outcome.{refused}
 use Rattle.cycle.specs.Silence.{is_reading}
 use Rattle.cycle.proofs.SilenceLaws.{next-reading, next-none}
 use Rattle.shape.specs.declared.Shape.{Shape}
@@ -37,7 +38,8 @@ returns-then-self-next_of c =
     let bad = next-none (cycle_in b) _ c.number_at-x.type_inv c.next_of.ensures above in
     let here = first_here good 0 xs k within (rw (is_read (goal.at.returns-then-self-next_of c).After-number_at-x) bad) in
     let first : first_bad good xs ≡ k = omega (arith, c.loop-k.invariant, here) in
-    rw (first, lt-ltb k (length xs) within, c.columns-columns.ensures)
+    let place : c.args.i * c.columns-columns.result + k ≡ c.args.i * columns_in b + k = cc in
+    rw (first, lt-ltb k (length xs) within) (ap (refused 9) place)
 
 pub loop-k-preserved : goal.loop-k-preserved
 loop-k-preserved c =
