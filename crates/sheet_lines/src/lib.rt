@@ -53,6 +53,7 @@ fn append_head(text: &mut Text, shape: Shape)
 }
 
 // A phase: its number, or `-` if it is silent.
+#[tactic(auto, using(crate::proofs::WordLaws::word_silent, crate::proofs::WordLaws::word_heard))]
 fn append_phase_word(text: &mut Text, phase: u16)
     ensures { Appended text.old (phase_word phase) text.new }
 {
