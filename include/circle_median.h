@@ -35,10 +35,9 @@
  * The place is 0 where none is given. Of several refusals the first in the order of the call's tests is told: rising
  * for all calls but circle_median_read, which tests field by field.
  *
- * Stack, in bytes, measured on x86-64: an accepted circle_median_level takes 85,632 and an accepted
- * circle_median_reading 213,224, since their tables and lines are local. On a cycle of 360 ticks, which has a list of
- * its distances, an accepted circle_median_window_enter takes 856 and an accepted circle_median_distance 808. Every other
- * call, and every call that is refused, takes at most 300.
+ * Stack, in bytes, measured on x86-64: an accepted circle_median_level takes 88,040 and an accepted
+ * circle_median_reading 213,224, since their tables and lines are local. Every other call, and every call that is
+ * refused, takes at most 300.
  */
 #ifndef CIRCLE_MEDIAN_H
 #define CIRCLE_MEDIAN_H
