@@ -3,25 +3,22 @@
 // with the file stdout, is all that it does.
 #![tactic(auto)]
 
-// Standard output.
-const STDOUT: i32 = 1;
+use std::io;
+use std::io::{BufWriter, Write};
 
 const TICKS: u16 = 360;
 
 // "each number followed by a comma and a line feed"
-fn print_line(n: u16) {
-    io::print_decimal(STDOUT, n as u64);
-    io::write_all(STDOUT, b",\n");
-}
-
-fn print_list() {
-    let mut k = 0;
-    while k < TICKS {
-        print_line(cycle::apart_by_formula(TICKS, 0, k));
-        k += 1;
+fn print_list(rt: &(impl Print + AllocGlobal)) -> io::Result<()> {
+    let mut out = BufWriter::new(rt.alloc(), io::writer(rt))?;
+    for tick in 0..TICKS {
+        let distance = cycle::apart_by_formula(TICKS, 0, tick);
+        writeln!(out, "{distance},")?;
     }
+    out.flush()
 }
 
-fn main() {
-    print_list();
+fn main(rt: HostRuntime) {
+    // Where no more can be printed, or memory runs out, the list ends, with status 0.
+    let _ = print_list(&rt);
 }

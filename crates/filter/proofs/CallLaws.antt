@@ -6,7 +6,9 @@ use native.Mathlib.Omega.{arith}
 use native.Mathlib.Decide.{dec_lt}
 use native.Mathlib.Nat.{zero-add}
 use borrow.Author.Tests.{le-ltb, eq-eqb, ltb-false, eqb-true, not-false}
-use lib.ListN.{length, get_or}
+use lib.ListN.{length, get_or, drop}
+use Rattle.std.proofs.Common.{replicate, rules}
+use Rattle.std.proofs.lemmas.List.{places}
 use lib.Seq.{ext_get_or}
 use Rattle.lists.specs.First.{first_bad}
 use Rattle.lists.specs.Tabulate.{written}
@@ -17,6 +19,7 @@ use Rattle.refusal.proofs.Outcome.{after_same, accepted_clear, clear_split}
 use Rattle.refusal.specs.Limits.{longest_cycle}
 use Rattle.cycle.specs.Silence.{is_reading}
 use Rattle.shape.specs.Rules.{shape_rules, area}
+use Rattle.shape.proofs.Accepted.{shape_clear, clear_shape}
 use Rattle.shape.specs.declared.Shape.{Shape}
 use Rattle.memory.specs.Memory.{Changed}
 use Rattle.memory.specs.Parts.{zeros}
@@ -48,6 +51,36 @@ image_clear s need first end image output work k = record {
 pub image_ready : {s : Shape} {need first end output work limit : ℕ} {image : List ℕ} → Clear (shape_rules limit s)
     → Image s need first end image output work → Ready limit s image
 image_ready k i = record { shape = k; size = i.size; good = i.good }
+
+-- and then the image is one that any engine may be lent
+pub ready_longest : {limit : ℕ} {s : Shape} {image : List ℕ} → limit ≤ longest_cycle → Ready limit s image → Ready longest_cycle s image
+ready_longest {limit} {s} fits r =
+    let a = shape_clear limit s r.shape in
+    record {
+      shape = clear_shape longest_cycle s record {
+        cycle_some = a.cycle_some;
+        cycle_fits = omega (arith, a.cycle_fits);
+        rows_some = a.rows_some;
+        rows_fit = a.rows_fit;
+        columns_some = a.columns_some;
+        columns_fit = a.columns_fit;
+        mask_rows_odd = a.mask_rows_odd;
+        mask_rows_fit = a.mask_rows_fit;
+        mask_columns_odd = a.mask_columns_odd;
+        mask_columns_fit = a.mask_columns_fit;
+      };
+      size = r.size;
+      good = r.good;
+    }
+
+-- std's `fill` of the first n numbers with 0
+pub front-zeroed : {w part : List ℕ} {n m : ℕ} → n ≡ m → n ≤ length w → part ≡ replicate n 0 → Changed w (part ++ drop n w) 0 m zeros
+front-zeroed same room e = rw (e, ← same) (record {
+  len = search (rules, places);
+  before = λ k h. absurd (omega arith);
+  holds = λ q h. search (rules, places);
+  after = λ k h. search (rules, places);
+})
 
 -- the needed numbers zeroed at the end, and those beyond never changed
 pub zeroed : {w w' : List ℕ} {need : ℕ} (w₀ : List ℕ) → need ≤ length w₀ → length w ≡ length w₀ → ((k : ℕ) → need ≤ k → get_or w k 0 ≡ get_or w₀ k 0)

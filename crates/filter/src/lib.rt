@@ -83,12 +83,7 @@ pub fn run(
         shape,
         readings: input,
     };
-    engine.fill(
-        &image,
-        rows.start as usize..rows.end as usize,
-        output,
-        work,
-    );
+    engine.fill(&image, rows.start as usize..rows.end as usize, output, work);
     let need = engine.need(shape);
     work[..need].fill(0);
     Ok(())

@@ -8,133 +8,64 @@
 // image. The case is printed, as it was understood, before its answers.
 #![tactic(auto)]
 
-use filter::{Engine, FilterAnswer};
-use runs::cases::{DECIMAL, find, input, input_memory, nth, numbers_of, readings_of, shape_of};
-use runs::counts::after;
-use runs::marks::mark_end_u32;
-use runs::print::{say, say_next, say_number, say_readings, say_refusal, say_shape};
+mod case;
 
-// The most numbers of an image, an output and a work memory.
-const MOST_IMAGE: usize = 256;
+use case::{Case, Lent};
+use filter::Engine;
+use runs::input;
+use runs::print::Answer;
+use std::alloc::Global;
+use std::io;
+use std::io::{BufWriter, Write};
 
-const MOST_OUTPUT: usize = 128;
+// The numbers of work memory in a call with memory to spare.
+const SPARE_WORK: usize = 20736;
 
-const MOST_WORK: usize = 20736;
-
-const OUTPUT_MARK: u16 = 9;
-
-const WORK_MARK: u32 = 7;
-
-fn say_answer(r: FilterAnswer) {
-    match r {
-        FilterAnswer::Filtered => say(b"filtered"),
-        FilterAnswer::Refused(f) => say_refusal(f),
-    }
-}
-
-fn say_work(work: &[u32]) {
-    let zeros = mark_end_u32(work, 0, 0);
-    let end = mark_end_u32(work, zeros, WORK_MARK);
-    say(b" | work: 0 up to ");
-    say_number(zeros as u64);
-    say(b", 7 up to ");
-    say_number(end as u64);
-    say(b" of ");
-    say_number(work.len() as u64);
-    say(b"\n");
-}
-
-fn call(engine: Engine, sizes: &[u32], image: &[u16], output: &mut [u16], work: &mut [u32]) {
-    let shape = shape_of(sizes);
-    say_answer(filter::run(
+// Runs an engine on a case with so many numbers of work memory.
+fn call(
+    out: &mut impl Write,
+    alloc: Global,
+    case: &Case,
+    engine: Engine,
+    work: usize,
+) -> io::Result<()> {
+    let mut lent = Lent::new(alloc, case.output, work)?;
+    let answer = filter::run(
         engine,
-        shape,
-        nth(sizes, 5),
-        nth(sizes, 6),
-        image,
-        output,
-        work,
-    ));
-    say(b" | output:");
-    say_readings(output);
-    say_work(work);
-}
-
-// Lends so many numbers of output and of work memory.
-fn lend(engine: Engine, sizes: &[u32], image: &[u16], output: usize, work: usize) {
-    let start = 0;
-    let mut outputs = [OUTPUT_MARK; MOST_OUTPUT];
-    let mut works = [WORK_MARK; MOST_WORK];
-    if MOST_OUTPUT < output {
-        say(b"NO ROOM\n");
-        return;
-    }
-    if MOST_WORK < work {
-        say(b"NO ROOM\n");
-        return;
-    }
-    call(
-        engine,
-        sizes,
-        image,
-        &mut outputs[start..output],
-        &mut works[start..work],
+        case.shape,
+        case.rows.clone()?,
+        &case.image,
+        &mut lent.output,
+        &mut lent.work,
     );
+    writeln!(out, "{} | {lent}", Answer(answer.map(|()| "filtered")))
 }
 
-fn say_case(name: &[u8], sizes: &[u32], image: &[u16]) {
-    say(name);
-    say(b":");
-    say_shape(shape_of(sizes));
-    say(b" range ");
-    say_number(nth(sizes, 5) as u64);
-    say_next(nth(sizes, 6) as u64);
-    say(b" output ");
-    say_number(nth(sizes, 7) as u64);
-    say(b" work ");
-    say_number(nth(sizes, 8) as u64);
-    say(b":");
-    say_readings(image);
-    say(b"\n");
+fn run_case(out: &mut impl Write, alloc: Global, case: &Case) -> io::Result<()> {
+    let name = case.name;
+    writeln!(out, "{case}")?;
+    write!(out, "{name}, level: ")?;
+    call(out, alloc, case, Engine::Level, case.work)?;
+    write!(out, "{name}, reading: ")?;
+    call(out, alloc, case, Engine::Reading, case.work)?;
+    write!(out, "{name}, memory to spare: ")?;
+    call(out, alloc, case, Engine::Reading, SPARE_WORK)
 }
 
-fn run(name: &[u8], sizes: &[u32], image: &[u16]) {
-    let output = nth(sizes, 7) as usize;
-    let work = nth(sizes, 8) as usize;
-    say_case(name, sizes, image);
-    say(name);
-    say(b", level: ");
-    lend(Engine::Level, sizes, image, output, work);
-    say(name);
-    say(b", reading: ");
-    lend(Engine::Reading, sizes, image, output, work);
-    say(name);
-    say(b", memory to spare: ");
-    lend(Engine::Reading, sizes, image, output, MOST_WORK);
-}
-
-fn run_line(line: &[u8]) {
-    let mut sizes = [0u32; 9];
-    let mut image = [0u16; MOST_IMAGE];
-    let colon = find(line, 0, b':');
-    let start = after(colon, 1, line.len());
-    let end = find(line, start, b':');
-    numbers_of(&line[start..end], DECIMAL, &mut sizes);
-    let count = readings_of(&line[end..], &mut image);
-    run(&line[..colon], &sizes, &image[..count]);
-}
-
-fn run_all(bytes: &[u8]) {
-    let mut at = 0;
-    while at < bytes.len() {
-        let end = find(bytes, at, b'\n');
-        run_line(&bytes[at..end]);
-        at = after(end, 1, bytes.len());
+fn run(rt: &(impl Input + Print + AllocGlobal)) -> io::Result<()> {
+    let alloc = rt.alloc();
+    let cases = input::text(rt);
+    let mut out = BufWriter::new(alloc, io::writer(rt))?;
+    for line in cases.lines() {
+        match Case::parse(alloc, line)? {
+            Some(case) => run_case(&mut out, alloc, &case)?,
+            None => writeln!(out, "{line} -> NO CASE")?,
+        }
     }
+    out.flush()
 }
 
-fn main() {
-    let mut bytes = input_memory();
-    let n = input(&mut bytes);
-    run_all(&bytes[..n]);
+fn main(rt: HostRuntime) {
+    // Where no more can be printed, or memory runs out, the runs end, with status 0.
+    let _ = run(&rt);
 }

@@ -1,6 +1,6 @@
 -- What the level engine's rows are given, and what they leave. Internal to the engine.
 use Rattle.std.specs.Prelude.{ℕ, ◌*◌, ◌≤◌, ◌<◌, ◌≡◌, true, List, length}
-use Rattle.lists.specs.Tabulate.{tabulate}
+use Rattle.lists.specs.Tabulate.{tabulate, written}
 use Rattle.refusal.specs.Limits.{longest_cycle}
 use Rattle.cycle.specs.Silence.{silent, is_reading}
 use Rattle.median.specs.Choice.{candidates, Chosen}
@@ -12,6 +12,11 @@ use Rattle.lines.specs.declared.image.Image.{Image}
 -- the phases of row i
 abbrev pub PhasesOf : Image → ℕ → List ℕ → Type 0
 PhasesOf image i out = out ≡ tabulate (phase_at image.shape image.readings.now) (i * image.shape.columns) image.shape.columns
+
+-- the rows of an output from first up to end have their phases, and the others are as they were
+abbrev pub RowsWritten : Image → ℕ → ℕ → List ℕ → List ℕ → Type 0
+RowsWritten image first end out₀ out =
+    out ≡ written (phase_at image.shape image.readings.now) (first * image.shape.columns) (end * image.shape.columns) out₀
 
 -- a phase may be chosen by a centre and the sums of its window, one for each tick of the cycle
 pub record Choosable (centre : ℕ) (sums : List ℕ) : Type 0 where

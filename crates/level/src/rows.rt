@@ -1,15 +1,13 @@
 // The rows of the output: the first of a range, and each later one from the row above it.
-ghost use Rattle.std.specs.Prelude.{◌≡◌, ◌+◌, ◌*◌, ◌≤◌, ◌<◌, length};
-ghost use Rattle.lists.specs.Tabulate.{tabulate, written};
+ghost use Rattle.std.specs.Prelude.{◌≡◌, ◌+◌, ◌≤◌, ◌<◌, length};
 ghost use Rattle.refusal.specs.Limits.{level_cycle};
 ghost use Rattle.shape.specs.Need.{level_need};
 ghost use Rattle.shape.specs.Rules.{area};
 ghost use Rattle.memory.specs.Memory.{lowest};
 ghost use Rattle.memory.specs.Parts.{held};
-ghost use Rattle.window.specs.Phase.{phase_at};
 ghost use Rattle.lines.specs.Rows.{Fillable, Filled};
-ghost use Rattle.level_sums.specs.Sums.{RowSums};
-ghost use Rattle.level.specs.Rows.{Choosable, ChosenBy, PhasesOf};
+ghost use Rattle.level_sums.specs.Sums.{IsRow, IsColumn, RowSums};
+ghost use Rattle.level.specs.Rows.{Choosable, ChosenBy, PhasesOf, RowsWritten};
 
 use cycle::SILENT;
 use level_choice::choose;
@@ -51,7 +49,7 @@ fn settled(centre: u16, sums: &[u32]) -> u16
 // Row i, set up afresh.
 fn first_row(source: &Source, i: usize, sums: &mut [u32], lines: &mut Lines, out: &mut [u16])
     requires image_row { i < source.now.image.shape.rows }
-    requires room { length sums.old ≡ source.now.image.shape.columns * source.now.image.shape.cycle }
+    requires room { IsRow source.now.image sums.old }
     requires width { length out.old ≡ source.now.image.shape.columns }
     ensures phases { PhasesOf source.now.image i out.new }
     ensures sums { RowSums source.now.image i sums.new 0 source.now.image.shape.columns }
@@ -74,8 +72,8 @@ fn next_row(
     out: &mut [u16],
 )
     requires next { i + 1 < source.now.image.shape.rows }
-    requires room { length sums.old ≡ source.now.image.shape.columns * source.now.image.shape.cycle }
-    requires ticks { length change.old ≡ source.now.image.shape.cycle }
+    requires room { IsRow source.now.image sums.old }
+    requires ticks { IsColumn source.now.image change.old }
     requires width { length out.old ≡ source.now.image.shape.columns }
     requires sums { RowSums source.now.image i sums.old 0 source.now.image.shape.columns }
     ensures phases { PhasesOf source.now.image (i + 1) out.new }
@@ -103,9 +101,9 @@ fn each_row(
     requires order { rows.start ≤ rows.end }
     requires image_rows { rows.end ≤ source.now.image.shape.rows }
     requires output_room { area source.now.image.shape ≤ length output.old }
-    requires room { length sums.old ≡ source.now.image.shape.columns * source.now.image.shape.cycle }
-    requires ticks { length change.old ≡ source.now.image.shape.cycle }
-    ensures { output.new ≡ written (phase_at source.now.image.shape source.now.image.readings.now) (rows.start * source.now.image.shape.columns) (rows.end * source.now.image.shape.columns) output.old }
+    requires room { IsRow source.now.image sums.old }
+    requires ticks { IsColumn source.now.image change.old }
+    ensures { RowsWritten source.now.image rows.start rows.end output.old output.new }
 {
     let columns = source.image.shape.columns as usize;
     let first = rows.start;

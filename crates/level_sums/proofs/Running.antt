@@ -20,7 +20,9 @@ ticks_set each len e = record { len = len; holds = λ q h. each q (omega arith) 
 
 -- numbers that std's `fill` has cleared
 pub ticks_zero : {c n : ℕ} {f : ℕ → ℕ} {new : List ℕ} → new ≡ replicate n 0 → n ≡ c → ((q : ℕ) → 0 ≡ f q) → AtTicks c f new
-ticks_zero {n = n} e len zero = record { len = ap length e ∙ length-replicate {A = ℕ} n 0 ∙ len; holds = λ q h. each_filled n e q (omega (arith, ap length e, length-replicate {A = ℕ} n 0)) ∙ zero q }
+ticks_zero {n = n} {new = new} e len zero =
+    let long : length new ≡ n = ap length e ∙ length-replicate {A = ℕ} n 0 in
+    record { len = long ∙ len; holds = λ q h. each_filled n e q (omega (arith, long)) ∙ zero q }
 
 -- only the numbers at the ticks count
 pub ticks_are : {c : ℕ} {f g : ℕ → ℕ} {numbers : List ℕ} → AtTicks c f numbers → ((q : ℕ) → q < c → f q ≡ g q) → AtTicks c g numbers

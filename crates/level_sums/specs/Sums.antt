@@ -23,6 +23,13 @@ row_change s image i j q =
     (shares s.cycle q (stretch (padded 0 s image) s.mask_columns (i + s.mask_rows) j))
     (shares s.cycle q (stretch (padded 0 s image) s.mask_columns i j))
 
+-- memory for the sums of a row's columns, and for a number at each tick
+abbrev pub IsRow : Image → List ℕ → Type 0
+IsRow image sums = length sums ≡ image.shape.columns * image.shape.cycle
+
+abbrev pub IsColumn : Image → List ℕ → Type 0
+IsColumn image numbers = length numbers ≡ image.shape.cycle
+
 -- a number for each of c ticks: f of the tick
 pub record AtTicks (c : ℕ) (f : ℕ → ℕ) (numbers : List ℕ) : Type 0 where
   pub len : length numbers ≡ c
@@ -54,8 +61,8 @@ RowSums image i sums a b =
 -- on the way from row i to the next: the columns before j hold the sums of row i + 1, the others those of row i, and the differences are
 -- those of the last column before j
 pub record Descent (image : Image) (i j : ℕ) (sums change : List ℕ) : Type 0 where
-  pub room : length sums ≡ image.shape.columns * image.shape.cycle
-  pub ticks : length change ≡ image.shape.cycle
+  pub room : IsRow image sums
+  pub ticks : IsColumn image change
   pub done : RowSums image (i + 1) sums 0 j
   pub left : RowSums image i sums j image.shape.columns
   pub differences : 0 < j → RowChange image i (j - 1) change

@@ -1,10 +1,10 @@
 // The sums of a row's columns, set up afresh or moved down by a row, and what they are made from.
-ghost use Rattle.std.specs.Prelude.{◌≡◌, ◌+◌, ◌*◌, ◌≤◌, ◌<◌, IsTrue, length};
+ghost use Rattle.std.specs.Prelude.{◌≡◌, ◌+◌, ◌≤◌, ◌<◌, IsTrue};
 ghost use Rattle.refusal.specs.Limits.{level_cycle};
 ghost use Rattle.cycle.specs.Silence.{is_reading};
 ghost use Rattle.window.specs.Ready.{Ready};
 ghost use Rattle.level_sums.specs.Table.{Table, PartOf};
-ghost use Rattle.level_sums.specs.Sums.{SharesAt, BlockSums, ColumnSums, RowChange, RowSums, Descent, lowest_sum};
+ghost use Rattle.level_sums.specs.Sums.{IsRow, IsColumn, SharesAt, BlockSums, ColumnSums, RowChange, RowSums, Descent, lowest_sum};
 
 use crate::table::TABLE;
 use cycle::SILENT;
@@ -59,7 +59,7 @@ impl<'a> Source<'a> {
     // The sums of the window of row i and column 0.
     fn first_column(&self, i: usize, sums: &mut [u32])
         requires image_row { i < self.now.image.shape.rows }
-        requires ticks { length sums.old ≡ self.now.image.shape.cycle }
+        requires ticks { IsColumn self.now.image sums.old }
         ensures { ColumnSums self.now.image i 0 sums.new }
     {
         sums.fill(0);
@@ -87,7 +87,7 @@ impl<'a> Source<'a> {
     pub fn set_up(&self, i: usize, j: usize, sums: &mut [u32])
         requires image_row { i < self.now.image.shape.rows }
         requires image_column { j < self.now.image.shape.columns }
-        requires room { length sums.old ≡ self.now.image.shape.columns * self.now.image.shape.cycle }
+        requires room { IsRow self.now.image sums.old }
         requires before { RowSums self.now.image i sums.old 0 j }
         ensures { RowSums self.now.image i sums.new 0 (j + 1) }
     {
@@ -104,7 +104,7 @@ impl<'a> Source<'a> {
     // The differences between row i + 1 and row i, at column 0.
     fn first_change(&self, i: usize, change: &mut [u32])
         requires next { i + 1 < self.now.image.shape.rows }
-        requires ticks { length change.old ≡ self.now.image.shape.cycle }
+        requires ticks { IsColumn self.now.image change.old }
         ensures { RowChange self.now.image i 0 change.new }
     {
         let below = i + self.image.shape.mask_rows as usize;
@@ -119,7 +119,7 @@ impl<'a> Source<'a> {
     // The sums of column 0 of row i + 1, from those of row i. The lowest of them.
     fn start_row(&self, i: usize, sums: &mut [u32], change: &mut [u32]) -> u32
         requires next { i + 1 < self.now.image.shape.rows }
-        requires ticks { length change.old ≡ self.now.image.shape.cycle }
+        requires ticks { IsColumn self.now.image change.old }
         requires column { ColumnSums self.now.image i 0 sums.old }
         ensures differences { RowChange self.now.image i 0 change.new }
         ensures column { ColumnSums self.now.image (i + 1) 0 sums.new }
@@ -142,11 +142,11 @@ impl<'a> Source<'a> {
     {
         let below = i + self.image.shape.mask_rows as usize;
         let ahead = j + self.image.shape.mask_columns as usize;
-        let in1 = self.part_at(below, ahead);
-        let in2 = self.part_at(i, j);
-        let out1 = self.part_at(below, j);
-        let out2 = self.part_at(i, ahead);
-        turn(sums, change, in1, in2, out1, out2)
+        let first_in = self.part_at(below, ahead);
+        let second_in = self.part_at(i, j);
+        let first_out = self.part_at(below, j);
+        let second_out = self.part_at(i, ahead);
+        turn(sums, change, first_in, second_in, first_out, second_out)
     }
 
     // The sums of column j of row i + 1, from those of row i. The lowest of them.

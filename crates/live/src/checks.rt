@@ -9,6 +9,7 @@ use refusal::{Refusal, refuse_if};
 use shape::check_side;
 
 // Tests 1 and 3, of a window.
+#[tactic(auto, unfolding(refusal::specs::Outcome::first_due))]
 pub fn check_window(cycle: u32, length: u32) -> Result<(), Refusal>
     ensures { outcome result ≡ first_due (window_rules cycle length) tt }
 {
@@ -17,6 +18,7 @@ pub fn check_window(cycle: u32, length: u32) -> Result<(), Refusal>
 }
 
 // Test 9, of a reading to push.
+#[tactic(auto, unfolding(cycle::specs::Silence::is_reading, refusal::specs::Outcome::first_due))]
 fn check_newest(cycle: u32, reading: u16) -> Result<(), Refusal>
     ensures { outcome result ≡ first_due (newest_rule cycle reading ∷ []) tt }
 {
@@ -24,6 +26,7 @@ fn check_newest(cycle: u32, reading: u16) -> Result<(), Refusal>
 }
 
 // The tests of a push, on the window's own numbers and on the reading.
+#[tactic(auto, unfolding(refusal::specs::Outcome::first_due))]
 pub fn check_push(cycle: u32, length: u32, reading: u16) -> Result<(), Refusal>
     ensures { outcome result ≡ first_due (push_rules cycle length reading) tt }
 {

@@ -12,6 +12,7 @@ use live_passes::{enter, phase_in};
 use refusal::Refusal;
 
 // Makes the arrays those of a fresh window of C and T.
+#[tactic(auto, using(crate::proofs::Calls::empty_window), unfolding(crate::specs::Calls::fresh_due))]
 pub fn fresh_in(
     cycle: u32,
     length: u32,

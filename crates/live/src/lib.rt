@@ -50,6 +50,7 @@ pub struct Made {
 
 impl LiveWindow {
     // A window with nothing pushed.
+    #[tactic(auto, using(crate::proofs::Calls::empty_window))]
     fn empty(cycle: u32, length: u32) -> LiveWindow
         ensures { result ≡ live_after cycle length [] }
     {
@@ -63,6 +64,7 @@ impl LiveWindow {
     }
 
     // A new window of C and T; one of cycle 0, which every push refuses, if they are refused.
+    #[tactic(auto, unfolding(crate::specs::Calls::fresh_due))]
     pub fn fresh(cycle: u32, length: u32) -> Made
         ensures { FreshCall cycle length no_window result.told result.window }
     {
@@ -75,6 +77,7 @@ impl LiveWindow {
     }
 
     // Makes the window fresh, of the same C and T.
+    #[tactic(auto, unfolding(crate::specs::Calls::fresh_due))]
     pub fn reset(&mut self) -> Result<(), Refusal>
         ensures { FreshCall self.old.cycle self.old.length self.old result self.new }
     {

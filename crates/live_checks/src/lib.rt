@@ -3,8 +3,8 @@
 // program needs to be safe.
 #![tactic(auto)]
 
-mod answers;
-pub mod marks;
-pub mod pushes;
+pub mod report;
+pub mod run;
+pub mod said;
 pub mod tally;
 pub mod windows;

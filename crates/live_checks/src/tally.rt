@@ -1,8 +1,7 @@
 // What the runs count: the pushes, those of them that were refused, the comparisons, and those that found a difference.
-use runs::counts::{minus, plus};
-use runs::print::say_count;
+use std::fmt;
 
-#[derive(Clone, Copy)]
+#[derive(Clone, Copy, Debug, Default)]
 pub struct Tally {
     pushes: usize,
     refused: usize,
@@ -10,56 +9,33 @@ pub struct Tally {
     differences: usize,
 }
 
-pub fn no_tally() -> Tally {
-    Tally {
-        pushes: 0,
-        refused: 0,
-        compared: 0,
-        differences: 0,
+impl Tally {
+    pub fn push(&mut self, refused: bool) {
+        self.push_row(1);
+        self.refused = self.refused.saturating_add(usize::from(refused));
+    }
+
+    // So many pushes, none of them refused.
+    pub fn push_row(&mut self, n: usize) {
+        self.pushes = self.pushes.saturating_add(n);
+    }
+
+    // So many comparisons, of which so many found what was due.
+    pub fn compare(&mut self, n: usize, equal: usize) {
+        self.compared = self.compared.saturating_add(n);
+        self.differences = self.differences.saturating_add(n.saturating_sub(equal));
+    }
+
+    pub fn test(&mut self, so: bool) {
+        self.compare(1, usize::from(so));
     }
 }
 
-// 1 if so.
-fn one_if(so: bool) -> usize {
-    if so { 1 } else { 0 }
-}
-
-pub fn pushed(tally: Tally, refused: bool) -> Tally {
-    Tally {
-        pushes: plus(tally.pushes, 1),
-        refused: plus(tally.refused, one_if(refused)),
-        compared: tally.compared,
-        differences: tally.differences,
+impl fmt::Display for Tally {
+    fn fmt<W: fmt::Write>(&self, f: &mut fmt::Formatter<W>) -> fmt::Result {
+        writeln!(f, "pushes {}", self.pushes)?;
+        writeln!(f, "refused {}", self.refused)?;
+        writeln!(f, "compared {}", self.compared)?;
+        writeln!(f, "differences {}", self.differences)
     }
-}
-
-// So many pushes more, none of them refused.
-pub fn pushed_row(tally: Tally, n: usize) -> Tally {
-    Tally {
-        pushes: plus(tally.pushes, n),
-        refused: tally.refused,
-        compared: tally.compared,
-        differences: tally.differences,
-    }
-}
-
-// So many comparisons, of which so many found what was due.
-pub fn compared(tally: Tally, n: usize, equal: usize) -> Tally {
-    Tally {
-        pushes: tally.pushes,
-        refused: tally.refused,
-        compared: plus(tally.compared, n),
-        differences: plus(tally.differences, minus(n, equal)),
-    }
-}
-
-pub fn tested(tally: Tally, so: bool) -> Tally {
-    compared(tally, 1, one_if(so))
-}
-
-pub fn say_tally(tally: Tally) {
-    say_count(b"pushes ", tally.pushes);
-    say_count(b"refused ", tally.refused);
-    say_count(b"compared ", tally.compared);
-    say_count(b"differences ", tally.differences);
 }

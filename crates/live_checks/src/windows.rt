@@ -1,150 +1,108 @@
-// Calls of a live window, by value and in place, and windows compared and printed member by member.
-use crate::answers::{Said, fresh_said, is_refused, live_said};
-use crate::marks::say_marks;
+// Calls of a live window, by value and in place, and windows in print.
+use crate::said::{Runs, Said};
 use live::{LiveWindow, PLACES};
-use runs::print::{say, say_number};
+use std::fmt;
 
 // What a call was answered, and the window after it.
-#[derive(Clone, Copy)]
+#[derive(Clone, Copy, Debug, PartialEq, Eq)]
 pub struct Call {
     pub said: Said,
     pub window: LiveWindow,
 }
 
-fn same_numbers(a: &[u16; PLACES], b: &[u16; PLACES]) -> bool {
-    let mut k = 0;
-    while k < PLACES {
-        if a[k] != b[k] {
-            return false;
+impl Call {
+    pub fn fresh(cycle: u32, length: u32) -> Call {
+        let made = LiveWindow::fresh(cycle, length);
+        Call {
+            said: made.told.into(),
+            window: made.window,
         }
-        k += 1;
     }
-    true
-}
 
-pub fn same_window(a: LiveWindow, b: LiveWindow) -> bool {
-    let readings = a.readings;
-    let sums = a.sums;
-    let other_readings = b.readings;
-    let other_sums = b.sums;
-    if a.cycle != b.cycle {
-        return false;
+    // A new window, or a reset, in place.
+    pub fn fresh_in(before: LiveWindow) -> Call {
+        let mut window = before;
+        let told = live::fresh_in(
+            before.cycle,
+            before.length,
+            &mut window.readings,
+            &mut window.sums,
+        );
+        if told.is_ok() {
+            window.filled = 0;
+        }
+        Call {
+            said: told.into(),
+            window,
+        }
     }
-    if a.length != b.length {
-        return false;
-    }
-    if a.filled != b.filled {
-        return false;
-    }
-    if same_numbers(&readings, &other_readings) {
-        return same_numbers(&sums, &other_sums);
-    }
-    false
-}
 
-// The members of a window, in the manner of a case.
-pub fn say_window(window: LiveWindow) {
-    let readings = window.readings;
-    let sums = window.sums;
-    say_number(window.cycle as u64);
-    say(b" by ");
-    say_number(window.length as u64);
-    say(b" holding ");
-    say_number(window.filled as u64);
-    say(b", readings");
-    say_marks(&readings);
-    say(b", sums");
-    say_marks(&sums);
+    pub fn reset(before: LiveWindow) -> Call {
+        let mut window = before;
+        let told = window.reset();
+        Call {
+            said: told.into(),
+            window,
+        }
+    }
+
+    pub fn push(before: LiveWindow, reading: u16) -> Call {
+        let mut window = before;
+        let told = window.push(reading);
+        Call {
+            said: told.into(),
+            window,
+        }
+    }
+
+    pub fn push_in(before: LiveWindow, reading: u16) -> Call {
+        let mut window = before;
+        let told = live::push_in(
+            before.cycle,
+            before.length,
+            &mut window.filled,
+            reading,
+            &mut window.readings,
+            &mut window.sums,
+        );
+        Call {
+            said: told.into(),
+            window,
+        }
+    }
+
+    // The call as far as it is promised: of a window that no call made only whether it is refused, and by what.
+    pub fn promised(self, ours: bool) -> Call {
+        let said = if ours || self.said.is_refused() {
+            self.said
+        } else {
+            Said::Answered
+        };
+        Call { said, ..self }
+    }
 }
 
 // Numbers that no fresh window holds, for a new window to be made in their place.
 pub fn garbage(cycle: u32, length: u32) -> LiveWindow {
-    let readings = [40503u16; PLACES];
-    let sums = [9973u16; PLACES];
     LiveWindow {
         cycle,
         length,
         filled: 0,
-        readings,
-        sums,
+        readings: [40503; PLACES],
+        sums: [9973; PLACES],
     }
 }
 
-pub fn fresh(cycle: u32, length: u32) -> Call {
-    let made = live::fresh(cycle, length);
-    let told = made.told;
-    let window = made.window;
-    Call {
-        said: fresh_said(told),
-        window,
-    }
-}
+// The members of a window, in the manner of a case.
+#[derive(Clone, Copy, Debug)]
+pub struct Members<'a>(pub &'a LiveWindow);
 
-pub fn reset(window: LiveWindow) -> Call {
-    let made = live::reset(window);
-    let told = made.told;
-    let after = made.window;
-    Call {
-        said: fresh_said(told),
-        window: after,
-    }
-}
-
-// How many readings a window holds after it was made fresh, or refused to be.
-fn filled_after(said: Said, filled: u32) -> u32 {
-    if is_refused(said) {
-        return filled;
-    }
-    0
-}
-
-// A new window, or a reset, in place.
-pub fn fresh_in(before: LiveWindow) -> Call {
-    let mut readings = before.readings;
-    let mut sums = before.sums;
-    let told = live::fresh_in(before.cycle, before.length, &mut readings, &mut sums);
-    let said = fresh_said(told);
-    let window = LiveWindow {
-        cycle: before.cycle,
-        length: before.length,
-        filled: filled_after(said, before.filled),
-        readings,
-        sums,
-    };
-    Call { said, window }
-}
-
-pub fn push(window: LiveWindow, reading: u16) -> Call {
-    let pushed = live::push(window, reading);
-    let told = pushed.told;
-    let after = pushed.window;
-    Call {
-        said: live_said(told),
-        window: after,
-    }
-}
-
-pub fn push_in(before: LiveWindow, reading: u16) -> Call {
-    let mut readings = before.readings;
-    let mut sums = before.sums;
-    let entered = live::push_in(
-        before.cycle,
-        before.length,
-        before.filled,
-        reading,
-        &mut readings,
-        &mut sums,
-    );
-    let told = entered.told;
-    let window = LiveWindow {
-        cycle: before.cycle,
-        length: before.length,
-        filled: entered.filled,
-        readings,
-        sums,
-    };
-    Call {
-        said: live_said(told),
-        window,
+impl<'a> fmt::Display for Members<'a> {
+    fn fmt<W: fmt::Write>(&self, f: &mut fmt::Formatter<W>) -> fmt::Result {
+        let window = self.0;
+        write!(f, "{} by {} ", window.cycle, window.length)?;
+        write!(f, "holding {}, ", window.filled)?;
+        write!(f, "readings{}, ", Runs(&window.readings))?;
+        write!(f, "sums{}", Runs(&window.sums))
     }
 }

@@ -9,108 +9,64 @@
 // only whether a push is refused, until a reset has made it fresh. At last stands what was counted.
 #![tactic(auto)]
 
+mod case;
 mod rows;
 
-use live::{LiveWindow, PLACES};
-use live_checks::pushes::{Run, begin, run_words};
-use live_checks::tally::{Tally, no_tally, say_tally};
-use live_checks::windows::say_window;
-use rows::run_row;
-use runs::cases::{
-    DECIMAL, MOST_NUMBERS, begins, find, input, input_memory, numbers_of, readings_of,
-};
-use runs::counts::after;
-use runs::print::say;
+use case::Case;
+use live_checks::report::Report;
+use live_checks::run::Run;
+use live_checks::windows::Members;
+use runs::{cases, input};
+use std::alloc::Global;
+use std::io;
+use std::io::{BufWriter, Write};
 
-fn live_line(tally: Tally, line: &[u8]) -> Tally {
-    let mut sizes = [0u32; 2];
-    let colon = find(line, 0, b':');
-    numbers_of(&line[..colon], DECIMAL, &mut sizes);
-    let done = run_words(begin(tally, sizes[0], sizes[1]), &line[colon..]);
-    let window = done.window;
-    say(b"; ");
-    say_window(window);
-    done.tally
-}
-
-fn row_line(tally: Tally, line: &[u8]) -> Tally {
-    let mut sizes = [0u32; 2];
-    let mut row = [0u16; MOST_NUMBERS];
-    let colon = find(line, 0, b':');
-    numbers_of(&line[..colon], DECIMAL, &mut sizes);
-    let count = readings_of(&line[colon..], &mut row);
-    run_row(tally, sizes[0], sizes[1], &row[..count])
-}
-
-// The window of a case: its numbers, its readings and its sums, each as a text.
-fn forged(sizes: &[u8], readings_text: &[u8], sums_text: &[u8]) -> LiveWindow {
-    let mut numbers = [0u32; 3];
-    let mut readings = [0u16; PLACES];
-    let mut sums = [0u16; PLACES];
-    numbers_of(sizes, DECIMAL, &mut numbers);
-    readings_of(readings_text, &mut readings);
-    readings_of(sums_text, &mut sums);
-    LiveWindow {
-        cycle: numbers[0],
-        length: numbers[1],
-        filled: numbers[2],
-        readings,
-        sums,
+fn run_case<W: Write>(report: &mut Report<W>, alloc: Global, case: &Case) -> io::Result<()> {
+    match case {
+        Case::Live {
+            cycle,
+            length,
+            wakes,
+        } => {
+            let mut run = Run::begin(report, *cycle, *length)?;
+            run.play(report, alloc, wakes)?;
+            write!(report.out, "; {}", Members(&run.window))
+        }
+        Case::Row {
+            cycle,
+            length,
+            wakes,
+        } => {
+            let row = cases::readings(alloc, wakes)?;
+            rows::run(report, alloc, *cycle, *length, &row)
+        }
+        Case::Forged { window, wakes } => {
+            let mut run = Run {
+                window: *window,
+                ours: false,
+            };
+            write!(report.out, " {}", Members(&run.window))?;
+            run.play(report, alloc, wakes)
+        }
     }
 }
 
-fn forged_line(tally: Tally, line: &[u8]) -> Tally {
-    let comma = find(line, 0, b',');
-    let start = after(comma, 1, line.len());
-    let second = find(line, start, b',');
-    let colon = find(line, second, b':');
-    let window = forged(&line[..comma], &line[start..second], &line[second..colon]);
-    let run = Run {
-        window,
-        ours: false,
-        tally,
-    };
-    say(b" ");
-    say_window(window);
-    let done = run_words(run, &line[colon..]);
-    done.tally
+fn run(rt: &(impl Input + Print + AllocGlobal)) -> io::Result<()> {
+    let alloc = rt.alloc();
+    let cases = input::text(rt);
+    let mut report = Report::new(BufWriter::new(alloc, io::writer(rt))?);
+    for line in cases.lines() {
+        write!(report.out, "{line} ->")?;
+        match Case::parse(alloc, line)? {
+            Some(case) => run_case(&mut report, alloc, &case)?,
+            None => write!(report.out, " NO CASE")?,
+        }
+        writeln!(report.out)?;
+    }
+    report.end()
 }
 
-fn run_case(tally: Tally, line: &[u8]) -> Tally {
-    if begins(line, b"live") {
-        return live_line(tally, line);
-    }
-    if begins(line, b"row") {
-        return row_line(tally, line);
-    }
-    if begins(line, b"forged") {
-        return forged_line(tally, line);
-    }
-    say(b" NO CASE");
-    tally
-}
-
-fn run_line(tally: Tally, line: &[u8]) -> Tally {
-    say(line);
-    say(b" ->");
-    let done = run_case(tally, line);
-    say(b"\n");
-    done
-}
-
-fn run_all(bytes: &[u8]) -> Tally {
-    let mut tally = no_tally();
-    let mut at = 0;
-    while at < bytes.len() {
-        let end = find(bytes, at, b'\n');
-        tally = run_line(tally, &bytes[at..end]);
-        at = after(end, 1, bytes.len());
-    }
-    tally
-}
-
-fn main() {
-    let mut bytes = input_memory();
-    let n = input(&mut bytes);
-    say_tally(run_all(&bytes[..n]));
+fn main(rt: HostRuntime) {
+    // Where no more can be printed, or memory runs out, the runs end, with status 0.
+    let _ = run(&rt);
 }

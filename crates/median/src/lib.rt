@@ -3,7 +3,7 @@
 // to a sum, for the engines. Internal: `share_of` has a `requires`, which every engine meets.
 #![tactic(auto)]
 
-ghost use Rattle.std.specs.Prelude.{◌≡◌, true, cond};
+ghost use Rattle.std.specs.Prelude.{◌≡◌, IsTrue, if◌then◌else◌};
 ghost use Rattle.cycle.specs.Distance.{distance};
 ghost use Rattle.cycle.specs.Silence.{is_heard};
 ghost use Rattle.median.specs.Sum.{share, is_short};
@@ -15,7 +15,7 @@ const HALF: u32 = 32768;
 
 // The cycle to measure by: none where a reading is silent, so that the distance is 0.
 fn cycle_for(cycle: u16, z: u16) -> u16
-    ensures { result ≡ cond (is_heard z) cycle 0 }
+    ensures { result ≡ (if is_heard z then cycle else 0) }
 {
     if z == SILENT { 0 } else { cycle }
 }
@@ -31,7 +31,7 @@ fn share_of_any(cycle: u16, q: u16, z: u16) -> u16
 // look-up. It is the distance itself where `plain` says so: where both are heard, or the cycle is short
 // (`is_short`). In a loop the compiler asks that once and makes two loops, each without a branch.
 pub fn share_of(cycle: u16, q: u16, z: u16, plain: bool) -> u16
-    requires { plain ≡ true → distance cycle q z ≡ share cycle q z }
+    requires { IsTrue plain → distance cycle q z ≡ share cycle q z }
     ensures { result ≡ share cycle q z }
 {
     if plain {

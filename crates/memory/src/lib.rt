@@ -31,12 +31,13 @@ pub fn swap(sums: &mut [u32], entering: &[u32], leaving: &[u32])
     }
 }
 
-// The lesser of two numbers, compared as signed ones, which takes fewer packed instructions.
+// The lesser of two numbers, compared as signed ones, which takes fewer packed instructions. In a loop b is the
+// least so far: `min` of it takes one fewer than `min` of a.
 pub fn lower(a: u32, b: u32) -> u32
     requires { (a < 2 ^ 31) × (b < 2 ^ 31) }
     ensures { result ≡ min a b }
 {
-    (a as i32).min(b as i32) as u32
+    (b as i32).min(a as i32) as u32
 }
 
 // The lowest of all sums.

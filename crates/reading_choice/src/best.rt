@@ -31,15 +31,12 @@ impl Pair {
         ((self.sum as i32) < (kept.sum as i32))
             | ((self.sum == kept.sum) & ((self.rank as i32) < (kept.rank as i32)))
     }
+}
 
-    // The lower of the two.
-    fn lower(self, kept: Pair) -> Pair
-        requires sums_signed { (self.sum < 2 ^ 31) × (kept.sum < 2 ^ 31) }
-        requires ranks_signed { (self.rank < 2 ^ 31) × (kept.rank < 2 ^ 31) }
-        ensures { result ≡ (if lower_pair self.sum self.rank kept.sum kept.rank then self else kept) }
-    {
-        if self.is_lower(kept) { self } else { kept }
-    }
+fn pick(first: bool, a: u32, b: u32) -> u32
+    ensures { result ≡ (if first then a else b) }
+{
+    if first { a } else { b }
 }
 
 // The pairs of a row, window by window. Two arrays in place of one of pairs, since packed instructions want
@@ -124,8 +121,8 @@ fn weigh_each(sums: &[u32], ranks: &[u16], least: &mut [u32], nearest: &mut [u32
             sum: least[j],
             rank: nearest[j],
         };
-        let lower = pair.lower(kept);
-        least[j] = lower.sum;
-        nearest[j] = lower.rank;
+        let first = pair.is_lower(kept);
+        least[j] = pick(first, pair.sum, kept.sum);
+        nearest[j] = pick(first, pair.rank, kept.rank);
     }
 }

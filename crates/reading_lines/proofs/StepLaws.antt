@@ -4,7 +4,7 @@ use Rattle.lists.specs.Difference.{adjusted}
 use Rattle.lists.proofs.Difference.{adjusted-added}
 use Rattle.median.specs.Sum.{share}
 use Rattle.median.proofs.Sum.{share_half}
-use Rattle.memory.specs.Parts.{added, summed}
+use Rattle.memory.specs.Parts.{added}
 use Rattle.reading_lines.specs.Passes.{of_line, stepped, moved}
 
 -- what the code finds a reading to add is at most half a cycle
@@ -31,7 +31,3 @@ pub moved-stored : (changes steps : List ℕ) (half j d : ℕ) → half < 2 ^ 32
     → ((d + get_or steps j 0) % 2 ^ 32 + (2 ^ 32 - half)) % 2 ^ 32 ≡ moved changes steps half j
 unfolding adjusted
 moved-stored changes steps half j d h e = rw (← e) (omega arith)
-
--- and for a sum d, with a number x added
-pub summed-stored : (sums : List ℕ) (f : ℕ → ℕ) (j d x : ℕ) → d ≡ get_or sums j 0 → x ≡ f j → (d + x) % 2 ^ 32 ≡ summed sums f j
-summed-stored sums f j d x e g = rw (e, g)

@@ -4,14 +4,14 @@
 // meets.
 #![tactic(auto)]
 
-ghost use Rattle.std.specs.Prelude.{◌≡◌, ◌/◌, ◌≤◌, length};
+ghost use Rattle.std.specs.Prelude.{◌≡◌, ◌+◌, ◌/◌, ◌≤◌, length};
 ghost use Rattle.memory.specs.Memory.{Each, Changed};
-ghost use Rattle.memory.specs.Parts.{added, summed};
+ghost use Rattle.memory.specs.Parts.{added, summed, copied};
 ghost use Rattle.reading_lines.specs.Passes.{Measurable, between, between_two, stepped, moved, mark, marks};
 
 use cycle::SILENT;
 use median::share_of;
-use memory::NO_SUM;
+use memory::{NO_SUM, add};
 
 // What the readings of a line gain by those of a row.
 pub fn distances(cycle: u16, own: &[u16], row: &[u16], gains: &mut [u16], plain: bool)
@@ -103,16 +103,13 @@ pub fn move_on(changes: &mut [u32], steps: &[u16], half: u32)
     }
 }
 
-// The same, and adds the changes to a plane.
-pub fn move_add(changes: &mut [u32], steps: &[u16], half: u32, plane: &mut [u32])
-    requires same_length { length changes.old ≡ length plane.old }
-    requires steps_long { length plane.old ≤ length steps.now }
+// The same, and adds the changes from place `at` on to a plane.
+pub fn move_add(changes: &mut [u32], steps: &[u16], half: u32, at: usize, plane: &mut [u32])
+    requires steps_long { length changes.old ≤ length steps.now }
+    requires changes_long { at + length plane.old ≤ length changes.old }
     ensures changes_moved { Each changes.new (moved changes.old steps.now half) }
-    ensures plane_summed { Each plane.new (summed plane.old (moved changes.old steps.now half)) }
+    ensures plane_summed { Each plane.new (summed plane.old (copied changes.new at)) }
 {
-    for (j, sum) in plane.iter_mut().enumerate() {
-        let next = changes[j].wrapping_add(steps[j] as u32).wrapping_sub(half);
-        changes[j] = next;
-        *sum = sum.wrapping_add(next);
-    }
+    move_on(changes, steps, half);
+    add(plane, &changes[at..]);
 }

@@ -4,7 +4,6 @@ use Prim.Native.Nat.{ℕ, ◌+◌, ◌-◌, ◌/◌, ◌^◌, ◌≤◌, ◌<◌
 use mathlib.Core.Path.{◌≡◌, refl, ap, sym, ◌∙◌}
 use mathlib.Core.List.{List}
 use native.Mathlib.Omega.{arith}
-use native.Mathlib.Decide.{dec_lt}
 use lib.ListN.{length, get_or, take, drop, replicate}
 use borrow.Rule.Slice.PartMut.{put_mid}
 use Rattle.std.proofs.lemmas.List.{length-take, length-drop}
@@ -60,27 +59,18 @@ moved-part {z} steps half base k n from m part room e long len each =
     let v : j < m = omega arith in
     rw (part-reads z base k j u, part-reads steps from m j v))
 
--- the steps at n places, moved on in two parts
-pub counted-steps : (c : ℕ) (own entering leaving steps : List ℕ) (start at a b : ℕ) {n next : ℕ} {z₀ z₁ z₂ : List ℕ} → n ≡ a + b → next ≡ start + a
+-- the steps at n places, moved on
+pub counted-steps : (c : ℕ) (own entering leaving steps : List ℕ) (start at n : ℕ) {z₀ z : List ℕ}
     → ((j : ℕ) → j < n → get_or steps j 0 ≡ c / 2 + of_line c own entering (start + j) (at + j) - of_line c own leaving (start + j) (at + j))
-    → Changed z₀ z₁ start a (λ j. adjusted (get_or z₀ (start + j) 0) (get_or steps (0 + j) 0) (c / 2))
-    → Changed z₁ z₂ next b (λ j. adjusted (get_or z₁ (next + j) 0) (get_or steps (a + j) 0) (c / 2))
-    → Counted (of_line c own entering) (of_line c own leaving) start at n z₀ z₂
-counted-steps c own entering leaving steps start at a b {n} {next} {z₀} {z₁} {z₂} e d s x y = record { holds = λ j h. go j h (dec_lt j a) }
+    → Changed z₀ z start n (λ j. adjusted (get_or z₀ (start + j) 0) (get_or steps (0 + j) 0) (c / 2))
+    → Counted (of_line c own entering) (of_line c own leaving) start at n z₀ z
+counted-steps c own entering leaving steps start at n {z₀} s x = record { holds = λ j h. x.holds j h ∙ one (0 + j) j (omega arith) h }
   where
-    one : (p j i : ℕ) → i ≡ j → j < n → adjusted (get_or z₀ p 0) (get_or steps i 0) (c / 2)
-        ≡ adjusted (get_or z₀ p 0) (of_line c own entering (start + j) (at + j)) (of_line c own leaving (start + j) (at + j))
-    one p j i u h =
-        rw u (ap (λ (v : ℕ). adjusted (get_or z₀ p 0) v (c / 2)) (s j h) ∙ moved-step (get_or z₀ p 0) (c / 2) _ _ (share_half c _ _))
-
-    go : (j : ℕ) → j < n → Dec (j < a) → get_or z₂ (start + j) 0
+    one : (i j : ℕ) → i ≡ j → j < n → adjusted (get_or z₀ (start + j) 0) (get_or steps i 0) (c / 2)
         ≡ adjusted (get_or z₀ (start + j) 0) (of_line c own entering (start + j) (at + j)) (of_line c own leaving (start + j) (at + j))
-    go j h (yes l) = y.before (start + j) (omega arith) ∙ x.holds j l ∙ one (start + j) j (0 + j) (omega arith) h
-    go j h (no l) =
-        let p : next + (j - a) ≡ start + j = omega arith in
-        let here = rw p at (y.holds (j - a) (omega arith)) in
-        here ∙ ap (λ (v : ℕ). adjusted v (get_or steps (a + (j - a)) 0) (c / 2)) (x.after (start + j) (omega arith))
-        ∙ one (start + j) j (a + (j - a)) (omega arith) h
+    one i j u h =
+        let d = get_or z₀ (start + j) 0 in
+        rw u (ap (λ (v : ℕ). adjusted d v (c / 2)) (s j h) ∙ moved-step d (c / 2) _ _ (share_half c _ _))
 
 -- the mask rows of row i, k of them counted at the places from `start` on
 pub record Rows (s : Shape) (image : List ℕ) (i : ℕ) (own : List ℕ) (start at k : ℕ) (z₀ z : List ℕ) : Type 0 where

@@ -10,7 +10,7 @@ ghost use Rattle.reading_sums.specs.CarryLines.{CarryLines};
 
 use crate::Changes;
 use lines::Line;
-use reading_lines::{move_add, move_on, steps};
+use reading_lines::{move_add, steps};
 use shape::Shape;
 
 // A line whose planes are carried: `entering` comes in below the windows, and `leaving` goes out above. `plain`
@@ -60,11 +60,11 @@ impl<'a> Carried<'a> {
                 stepped,
                 plain,
             );
-            move_on(&mut changes[..l], &stepped[..l], half);
             move_add(
-                &mut changes[l..n],
-                &stepped[l..n],
+                &mut changes[..n],
+                &stepped[..n],
                 half,
+                l,
                 &mut planes[start..start + columns],
             );
         }
@@ -105,12 +105,6 @@ impl<'a> Carried<'a> {
             stepped,
             plain,
         );
-        move_add(
-            &mut changes[l..l + columns],
-            &stepped[..columns],
-            half,
-            plane,
-        );
-        move_on(&mut changes[l + columns..l + n], &stepped[columns..n], half);
+        move_add(&mut changes[l..l + n], &stepped[..n], half, 0, plane);
     }
 }

@@ -5,12 +5,11 @@
 mod mask_row;
 mod turns;
 
-pub use mask_row::Row;
-pub use turns::{enter, stay};
-
 use lines::Line;
+pub use mask_row::Row;
 use reading_choice::Best;
 use reading_sums::Changes;
+pub use turns::{enter, stay};
 
 // The memory that the turns of a row work in.
 #[derive(Drop)]

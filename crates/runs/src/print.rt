@@ -1,99 +1,61 @@
-// Printing to standard output: text, numbers, shapes, refusals, and whether memory was kept.
+// Shapes, lists and answers as the programs print them.
 use refusal::Refusal;
 use shape::Shape;
+use std::fmt;
 
-// Standard output.
-const STDOUT: i32 = 1;
+// The numbers of a shape, in the manner of a case.
+#[derive(Clone, Copy, Debug)]
+pub struct Sizes(pub Shape);
 
-pub fn say(text: &[u8]) {
-    io::write_all(STDOUT, text);
-}
-
-pub fn say_number(n: u64) {
-    io::print_decimal(STDOUT, n);
-}
-
-// A number after a space.
-pub fn say_next(n: u64) {
-    say(b" ");
-    say_number(n);
-}
-
-pub fn say_signed(n: i32) {
-    if n < 0 {
-        say(b"-");
-    }
-    say_number(n.unsigned_abs() as u64);
-}
-
-// A line of a name and a number.
-pub fn say_count(name: &[u8], n: usize) {
-    say(name);
-    say_number(n as u64);
-    say(b"\n");
-}
-
-pub fn say_refusal(r: Refusal) {
-    say(b"refused ");
-    say_number(refusal::number(r) as u64);
-    say(b" at ");
-    say_number(refusal::place(r) as u64);
-}
-
-pub fn say_shape(s: Shape) {
-    say(b" cycle ");
-    say_number(s.cycle as u64);
-    say(b" rows ");
-    say_number(s.rows as u64);
-    say(b" columns ");
-    say_number(s.columns as u64);
-    say(b" mask ");
-    say_number(s.mask_rows as u64);
-    say_next(s.mask_columns as u64);
-}
-
-// The end of a line on memory that a call may not change.
-pub fn say_kept(kept: bool) {
-    if kept {
-        say(b", kept\n");
-    } else {
-        say(b", CHANGED\n");
+impl fmt::Display for Sizes {
+    fn fmt<W: fmt::Write>(&self, f: &mut fmt::Formatter<W>) -> fmt::Result {
+        let Shape {
+            cycle,
+            rows,
+            columns,
+            mask_rows,
+            mask_columns,
+        } = self.0;
+        write!(f, "cycle {cycle} rows {rows} columns {columns} ")?;
+        write!(f, "mask {mask_rows} {mask_columns}")
     }
 }
 
-fn say_reading(x: u16) {
-    say_next(x as u64);
-}
+// Readings, each after a space.
+#[derive(Clone, Copy, Debug)]
+pub struct Readings<'a>(pub &'a [u16]);
 
-pub fn say_readings(readings: &[u16]) {
-    let mut i = 0;
-    while i < readings.len() {
-        say_reading(readings[i]);
-        i += 1;
+impl<'a> fmt::Display for Readings<'a> {
+    fn fmt<W: fmt::Write>(&self, f: &mut fmt::Formatter<W>) -> fmt::Result {
+        for reading in self.0 {
+            write!(f, " {reading}")?;
+        }
+        Ok(())
     }
 }
 
-fn digit(x: u8) -> u8 {
-    if x < 10 {
-        return b'0' + x;
+// Bytes in hexadecimal, each after a space.
+#[derive(Clone, Copy, Debug)]
+pub struct Bytes<'a>(pub &'a [u8]);
+
+impl<'a> fmt::Display for Bytes<'a> {
+    fn fmt<W: fmt::Write>(&self, f: &mut fmt::Formatter<W>) -> fmt::Result {
+        for byte in self.0 {
+            write!(f, " {byte:02X}")?;
+        }
+        Ok(())
     }
-    if x < 16 {
-        return b'A' - 10 + x;
-    }
-    b'?'
 }
 
-// A byte in hexadecimal, after a space.
-pub fn say_byte(x: u8) {
-    let pair = [b' ', digit(x / 16), digit(x % 16)];
-    say(&pair);
-}
+// What a call answered: its result or its refusal.
+#[derive(Debug, Drop)]
+pub struct Answer<T>(pub Result<T, Refusal>);
 
-// Bytes in hexadecimal.
-pub fn say_bytes(bytes: &[u8]) {
-    let mut i = 0;
-    while i < bytes.len() {
-        say_byte(bytes[i]);
-        i += 1;
+impl<T: fmt::Display> fmt::Display for Answer<T> {
+    fn fmt<W: fmt::Write>(&self, f: &mut fmt::Formatter<W>) -> fmt::Result {
+        match &self.0 {
+            Ok(result) => write!(f, "{result}"),
+            Err(refusal) => write!(f, "{refusal}"),
+        }
     }
 }

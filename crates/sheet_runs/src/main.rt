@@ -5,57 +5,37 @@
 // call and never cleared, so a record finds in it what those before it left.
 #![tactic(auto)]
 
-ghost use Rattle.std.specs.Prelude.{◌≤◌, length};
-ghost use Rattle.sheet_lines.specs.Lines.{most_text};
+mod records;
 
-use runs::cases::{input, input_memory, number_at};
-use runs::counts::after;
-use runs::print::say_count;
+use records::Records;
+use runs::input;
 use sheet::MOST_TEXT;
 use sheet_stdio::print_sheet;
+use std::io;
+use std::io::{BufWriter, Write};
 
-// The length at a place, of two bytes.
-fn length_at(bytes: &[u8], at: usize) -> usize {
-    number_at(bytes, at) as usize
-}
-
-fn say_index(k: usize) {
-    say_count(b"record ", k);
-}
-
-fn print_all(
-    bytes: &[u8],
-    readings: &mut [u16],
-    output: &mut [u16],
-    work: &mut [u32],
-    text: &mut [u8],
-)
-    requires { most_text ≤ length text.old }
-{
-    let mut k = 0;
-    let mut at = 0;
-    while at < bytes.len() {
-        let start = after(at, 2, bytes.len());
-        let end = after(start, length_at(bytes, at), bytes.len());
-        say_index(k);
-        print_sheet(&bytes[start..end], readings, output, work, text);
-        at = end;
-        k += 1;
-    }
-}
-
-fn main() {
-    let mut bytes = input_memory();
+fn run(rt: &(impl Input + Print + AllocGlobal)) -> io::Result<()> {
+    let bytes = input::bytes(rt);
+    let mut out = BufWriter::new(rt.alloc(), io::writer(rt))?;
     let mut readings = [60000u16; 8192];
     let mut output = [60000u16; 8192];
     let mut work = [4000000000u32; 16384];
     let mut text = [63u8; MOST_TEXT];
-    let n = input(&mut bytes);
-    print_all(
-        &bytes[..n],
-        &mut readings,
-        &mut output,
-        &mut work,
-        &mut text,
-    );
+    for (index, record) in Records(&bytes).enumerate() {
+        writeln!(out, "record {index}")?;
+        print_sheet(
+            &mut out,
+            record,
+            &mut readings,
+            &mut output,
+            &mut work,
+            &mut text,
+        );
+    }
+    out.flush()
+}
+
+fn main(rt: HostRuntime) {
+    // Where no more can be printed, or memory runs out, the runs end, with status 0.
+    let _ = run(&rt);
 }

@@ -1,65 +1,65 @@
 // The bench sheet from standard input to standard output: here the bytes are read, the memory is lent, and
-// the text is written. All that is printed is laid out by `sheet`, which is proved. A program over this
-// calls `print_input`, of which no contract can speak: it takes and returns nothing. `print_sheet` is
-// internal: its `requires` is met by the text memory of the programs.
+// the text is written. All that is printed is laid out by `sheet`, which is proved. What a program gives to
+// standard output is out of reach of a contract; `print_sheet` promises all else that `sheet` does.
 #![tactic(auto)]
 
-ghost use Rattle.std.specs.Prelude.{◌≡◌, ◌≤◌, length};
-ghost use Rattle.sheet_lines.specs.Lines.{most_text};
-ghost use Rattle.sheet.specs.Sheet.{text_length, SheetCall};
+ghost use Rattle.std.specs.Prelude.{◌≤◌, length};
+ghost use Rattle.sheet.specs.Sheet.{SheetCall};
 
 use refusal::limits::MOST_BYTES;
 use sheet::{MOST_TEXT, SheetAnswer, sheet};
-
-// Standard input and standard output.
-const STDIN: i32 = 0;
-
-const STDOUT: i32 = 1;
+use std::io;
+use std::io::{Read, Write};
 
 // "Its work memory has 16,384 numbers, its readings and output buffers 8,192 each."
 const BUFFER: usize = 8192;
 
 const WORK: usize = 16384;
 
-// The length of the whole text.
-fn text_length(answer: SheetAnswer) -> usize
-    ensures { result ≡ text_length answer }
-{
-    match answer {
-        SheetAnswer::Printed(n) => n,
-        SheetAnswer::Refused(_, n) => n,
-    }
-}
-
-// Prints the sheet of a record, or the line of its refusal.
+// Prints the sheet of a record, or the line of its refusal, as far as the text memory has room for it.
 pub fn print_sheet(
+    out: &mut impl Write,
     bytes: &[u8],
     readings: &mut [u16],
     output: &mut [u16],
     work: &mut [u32],
     text: &mut [u8],
 ) -> SheetAnswer
-    requires { most_text ≤ length text.old }
     ensures { SheetCall bytes.now readings.old output.old work.old text.old result readings.new output.new work.new text.new }
 {
-    let start = 0;
     let answer = sheet(bytes, readings, output, work, text);
-    let end = text_length(answer);
-    io::write_all(STDOUT, &text[start..end]);
+    let length = answer.length.min(text.len());
+    // What standard output doesn't take is let go: the answer stands all the same.
+    let _ = out.write_all(&text[..length]);
     answer
+}
+
+// Fills memory from a reader, until it is full or the reader gives no more; how many bytes were read.
+fn read_full(reader: &mut impl Read, bytes: &mut [u8]) -> usize
+    ensures { result ≤ length bytes.new }
+{
+    let mut filled = 0;
+    while filled < bytes.len() {
+        match reader.read(&mut bytes[filled..]) {
+            Ok(0) | Err(_) => break,
+            Ok(n) => filled += n,
+        }
+    }
+    filled
 }
 
 // Prints the sheet of the record that standard input holds. A record has at most 16,384 bytes, so one byte
 // more is read and no further: by that length alone `sheet` refuses what is too long.
-pub fn print_input() {
+pub fn print_input(rt: &(impl Input + Print)) {
     let mut record = [0u8; MOST_BYTES + 1];
     let mut readings = [0u16; BUFFER];
     let mut output = [0u16; BUFFER];
     let mut work = [0u32; WORK];
     let mut text = [0u8; MOST_TEXT];
-    let n = io::read_full(STDIN, &mut record);
+    let length = read_full(&mut rt.reader(), &mut record);
     print_sheet(
-        &record[..n],
+        &mut io::writer(rt),
+        &record[..length],
         &mut readings,
         &mut output,
         &mut work,

@@ -28,7 +28,8 @@ fn without_rounds(k: usize, round: usize) -> usize
 
 // The index that the position k behind the start of an axis stands for: along the axis and back, and again.
 fn along_and_back(extent: usize, k: usize) -> usize
-    requires { (0 < extent) × (extent ≤ most_columns) }
+    requires some { 0 < extent }
+    requires limit { extent ≤ most_columns }
     ensures { result ≡ folded extent (k % (2 * extent)) }
 {
     let left = without_rounds(k, 2 * extent);
@@ -42,7 +43,8 @@ fn along_and_back(extent: usize, k: usize) -> usize
 // The index that a position stands for, on an axis of a given extent that is padded by reach at each end. Most
 // positions lie on the axis or one reflection from its start.
 pub fn mirrored(extent: usize, reach: usize, position: usize) -> usize
-    requires { (0 < extent) × (extent ≤ most_columns) }
+    requires some { 0 < extent }
+    requires limit { extent ≤ most_columns }
     ensures { result ≡ mirror extent reach position }
 {
     let k = from_start(reach, position);

@@ -1,17 +1,12 @@
-use Rattle.std.proofs.Common.{arith}
-use Rattle.memory.proofs.Memory.{begun_more}
-use Rattle.reading_lines.specs.Passes.{moved}
-use Rattle.reading_lines.proofs.StepLaws.{moved-stored, summed-stored}
+-- `reading_lines::move_add` meets its contract: the changes that are added are those that were moved. Assumes nothing.
+use Rattle.std.proofs.Common.{ℕ, ◌+◌, ◌-◌, ◌%◌, ◌^◌, ◌<◌, length, get_or, refl, sym, ap, ◌∙◌, arith}
+use Rattle.lists.proofs.Difference.{adjusted-added}
+use Rattle.memory.proofs.Memory.{part-reads}
 use Rattle.reading_lines.proofs.move_add.Goals as goal
 
-pub loop-j-preserved : goal.loop-j-preserved
-loop-j-preserved c =
-    let j = c.loop-j.j in
-    let a = c.args in
-    let inv = c.loop-j.invariant in
-    let next = moved-stored a.changes.now a.steps.now a.half j _ (omega arith) (inv.changes_moved.left j (omega arith)) in
-    record {
-      changes_moved = begun_more inv.changes_moved _ (omega arith) next;
-      plane_summed = begun_more inv.plane_summed _ (omega arith)
-          (summed-stored a.plane.now (moved a.changes.now a.steps.now a.half) j _ _ (inv.plane_summed.left j (omega arith)) next);
-    }
+pub returns-clause-plane_summed : goal.returns-clause-plane_summed
+returns-clause-plane_summed c = λ j h.
+    let n = length c.move_on.new.changes in
+    let inside : j < n - c.args.at = omega (arith, c.add.auto.sums, c.move_on.auto.changes, c.requires.changes_long) in
+    c.add.ensures j h ∙ sym (adjusted-added _ _ _ refl)
+    ∙ ap (λ (x : ℕ). (get_or c.args.plane.now j 0 + x) % 2 ^ 32) (part-reads c.move_on.new.changes c.args.at _ j inside)

@@ -1,9 +1,10 @@
 use Prim.Native.Nat.{ℕ, ◌+◌, ◌-◌, ◌*◌, ◌≤◌}
-use mathlib.Core.Path.{◌≡◌}
+use mathlib.Core.Path.{subst, ◌≡◌}
 use native.Mathlib.Omega.{arith}
 use lib.ListN.{length}
 use Rattle.lists.proofs.Parts.{part_end}
 use Rattle.lists.proofs.Written.{run_start, run_part}
+use Rattle.level.specs.Rows.{PhasesOf}
 use Rattle.level.proofs.rows.each_row.Goals as goal
 use Rattle.level.proofs.rows.each_row.Goals.{then-i-first, else-i-first, In-loop-i}
 
@@ -34,8 +35,9 @@ loop-i-preserved c =
           }
       | else-i-first w ↦
           let d : l.i - 1 + 1 ≡ l.i = omega (arith, w.if-i-first.false) in
+          let phases = subst (λ (k : ℕ). PhasesOf image k w.next_row.new.out) d w.next_row.ensures.phases in
           record {
-            written = rw (w.output-is, next_place l.i n) (run_part l.invariant.written n _ room (rw d at w.next_row.ensures.phases));
+            written = rw (w.output-is, next_place l.i n) (run_part l.invariant.written n _ room phases);
             above = λ h. rw (e, w.sums-is) (rw d at w.next_row.ensures.sums);
           }
     ]

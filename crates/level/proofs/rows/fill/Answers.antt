@@ -27,5 +27,6 @@ returns c =
       outside = rw need at
           (outside_two {w = c.args.work.now} {m = s.columns * s.cycle} {n = s.cycle} c.each_row.new.sums c.each_row.new.change c.split_at_mut-sums.ensures.back
           (c.each_row.auto.sums ∙ c.split_at_mut-sums.ensures.front_len)
-          (c.each_row.auto.change ∙ simp length-take (omega (arith, c.split_at_mut-sums.ensures.back_len, c.requires.given.room))) (omega (arith, c.requires.given.room)));
+          (c.each_row.auto.change ∙ simp length-take (omega (arith, c.split_at_mut-sums.ensures.back_len, c.requires.given.room)))
+          (omega (arith, c.requires.given.room)));
     }

@@ -1,5 +1,5 @@
 -- `reading::rows::build_rows` meets its contract: mask row after mask row has the sums of row i, and is weighed. Assumes nothing.
-use Prim.Native.Nat.{◌+◌, ◌-◌, ◌≤◌}
+use Prim.Native.Nat.{◌+◌, ◌-◌}
 use Rattle.lines.specs.Lines.{PaddedLine}
 use Rattle.reading.proofs.Kept.{MaskRows}
 use Rattle.reading.proofs.rows.build_rows.Given as goal

@@ -1,10 +1,10 @@
-use Prim.Native.Nat.{ℕ, ◌+◌, ◌-◌, ◌*◌, ◌≤◌, ◌<◌}
+use Prim.Native.Nat.{◌+◌, ◌-◌, ◌*◌}
 use mathlib.Core.Path.{◌≡◌, refl, sym, ◌∙◌}
 use native.Mathlib.Omega.{arith}
 use Rattle.reading_planes.specs.Planes.{held}
 use Rattle.reading_planes.proofs.Sums.{sizes}
 use Rattle.reading_choice.proofs.RowLaws.{row_last}
-use Rattle.reading_turns.proofs.Sweeping.{Sweeping, sweeping_first, sweeping_more, sweeping_plane, sweeping_last}
+use Rattle.reading_turns.proofs.Sweeping.{sweeping_first, sweeping_more, sweeping_plane, sweeping_last}
 use Rattle.reading_turns.proofs.turns.carry.Goals as goal
 
 pub loop-l-init : goal.loop-l-init

@@ -1,6 +1,6 @@
 -- `reading_turns::turns::carry` meets its contract: after the sweep ahead plane 0 has its sums and is weighed, and each turn of the sweep behind
 -- does the same for the plane after it. Assumes nothing.
-use Prim.Native.Nat.{◌+◌, ◌≤◌}
+use Prim.Native.Nat.{◌+◌}
 use Rattle.reading_lines.specs.Passes.{of_line}
 use Rattle.reading_choice.specs.Weighed.{RowWeighed}
 use Rattle.reading_turns.proofs.Sweeping.{Sweeping}

@@ -8,24 +8,24 @@ pub turn-requires-clause-signed : goal.turn-requires-clause-signed
 turn-requires-clause-signed c =
     let source = c.args.self.now in
     down_turn_signed source.image source.ready c.args.i c.args.j c.requires.next_row c.requires.next_column c.requires.column c.requires.differences
-    c.part_at-in1.ensures c.part_at-in2.ensures c.part_at-out1.ensures c.part_at-out2.ensures
+    c.part_at-first_in.ensures c.part_at-second_in.ensures c.part_at-first_out.ensures c.part_at-second_out.ensures
 
 pub returns-clause-differences : goal.returns-clause-differences
 returns-clause-differences c =
     let source = c.args.self.now in
     down_differences source.image source.ready c.args.i c.args.j c.requires.next_row c.requires.next_column c.requires.column c.requires.differences
-    c.part_at-in1.ensures c.part_at-in2.ensures c.part_at-out1.ensures c.part_at-out2.ensures c.turn.ensures.differences c.turn.auto.change
+    c.part_at-first_in.ensures c.part_at-second_in.ensures c.part_at-first_out.ensures c.part_at-second_out.ensures c.turn.ensures.differences c.turn.auto.change
 
 pub returns-clause-column : goal.returns-clause-column
 returns-clause-column c =
     let source = c.args.self.now in
     down_sums source.image source.ready c.args.i c.args.j c.requires.next_row c.requires.next_column c.requires.column c.requires.differences
-    c.part_at-in1.ensures c.part_at-in2.ensures c.part_at-out1.ensures c.part_at-out2.ensures c.turn.ensures.sums c.turn.auto.sums
+    c.part_at-first_in.ensures c.part_at-second_in.ensures c.part_at-first_out.ensures c.part_at-second_out.ensures c.turn.ensures.sums c.turn.auto.sums
 
 pub returns-clause-lowest : goal.returns-clause-lowest
 returns-clause-lowest c =
     let source = c.args.self.now in
     ticks_lowest
     (down_sums source.image source.ready c.args.i c.args.j c.requires.next_row c.requires.next_column c.requires.column c.requires.differences
-    c.part_at-in1.ensures c.part_at-in2.ensures c.part_at-out1.ensures c.part_at-out2.ensures c.turn.ensures.sums c.turn.auto.sums)
+    c.part_at-first_in.ensures c.part_at-second_in.ensures c.part_at-first_out.ensures c.part_at-second_out.ensures c.turn.ensures.sums c.turn.auto.sums)
     c.turn.ensures.lowest c.requires.column.len

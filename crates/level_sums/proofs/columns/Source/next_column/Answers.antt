@@ -17,8 +17,9 @@ loop-k-preserved c =
     let k = c.loop-k.k in
     let more = entering_sum image.shape image.readings.now c.args.i c.args.j in
     let less = leaving_sum image.shape image.readings.now c.args.i c.args.j in
-    run_swapped (more k) (less k) (more (k + 1)) (less (k + 1)) c.loop-k.invariant c.swap.auto.sums _ _ c.part_at-entering.ensures c.part_at-leaving.ensures c.swap.ensures
-    (λ q h. entering_more image.shape image.readings.now c.args.i c.args.j k q) (λ q h. leaving_more image.shape image.readings.now c.args.i c.args.j k q)
+    run_swapped (more k) (less k) (more (k + 1)) (less (k + 1)) c.loop-k.invariant c.swap.auto.sums _ _ c.part_at-entering.ensures
+    c.part_at-leaving.ensures c.swap.ensures (λ q h. entering_more image.shape image.readings.now c.args.i c.args.j k q)
+    (λ q h. leaving_more image.shape image.readings.now c.args.i c.args.j k q)
 
 pub returns : goal.returns
 returns c =

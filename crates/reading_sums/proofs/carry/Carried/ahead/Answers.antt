@@ -1,6 +1,7 @@
 use Prim.Native.Nat.{◌+◌, ◌-◌, ◌*◌, ◌/◌, ◌<◌}
-use mathlib.Core.Path.{◌∙◌}
+use mathlib.Core.Path.{◌≡◌, refl, ◌∙◌}
 use native.Mathlib.Omega.{arith}
+use lib.ListN.{get_or}
 use Rattle.std.proofs.Common.{rules}
 use Rattle.memory.proofs.Memory.{changed_part, part-reads}
 use Rattle.reading_planes.specs.Planes.{held}
@@ -38,32 +39,31 @@ loop-m-preserved c =
     let s = a.shape in
     let m = c.loop-m.m in
     let l = s.mask_columns - 1 - m in
+    let base = l * s.columns in
     let room = line_room s c.requires.accepted in
     let steps = c.steps.new.steps in
     let long = c.loop-m.invariant.long in
     let taken = steps-read s.cycle a.own.now a.entering.now a.leaving.now 0 m _ _ (s.columns + l) (omega arith) (omega arith)
     (omega (arith, c.requires.lines.own_reads.len, room)) c.steps.ensures in
-    let lower = moved-part {z = c.loop-m.changes} steps (s.cycle / 2) 0 _ l 0 _ c.move_on.new.changes (omega (arith, long, room)) (omega arith) (omega arith)
-    c.move_on.auto.changes c.move_on.ensures in
-    let upper = moved-part steps (s.cycle / 2) l _ s.columns l _ c.move_add.new.changes (omega (arith, long, room, lower.len)) (omega arith) (omega arith)
-    c.move_add.auto.changes c.move_add.ensures.changes_moved in
-    let done = counted-steps s.cycle a.own.now a.entering.now a.leaving.now steps 0 m l s.columns (omega arith) (omega arith) taken lower upper in
-    let plane = changed_part {w = c.loop-m.planes} {base = l * s.columns} {n = s.columns} c.move_add.new.plane
+    let moved = moved-part {z = c.loop-m.changes} steps (s.cycle / 2) 0 _ (s.columns + l) 0 _ c.move_add.new.changes (omega (arith, long, room)) (omega arith)
+    (omega arith) c.move_add.auto.changes c.move_add.ensures.changes_moved in
+    let stored = changed_part {w = c.loop-m.changes} {base = 0} {n = s.columns + l} c.move_add.new.changes (omega (arith, long, room)) (omega arith)
+    c.move_add.auto.changes {f = λ q. get_or c.move_add.new.changes q 0} (λ q h. refl) in
+    let plane = changed_part {w = c.loop-m.planes} {base = base} {n = s.columns} c.move_add.new.plane
     (omega (arith, plane_within s l (omega arith), c.requires.all_planes, c.loop-m.auto.planes)) (omega arith) c.move_add.auto.plane c.move_add.ensures.plane_summed in
-    let stored = changed_part {base = l} {n = s.columns} c.move_add.new.changes (omega (arith, long, room, lower.len)) (omega arith) c.move_add.auto.changes
-    c.move_add.ensures.changes_moved in
-    let base = l * s.columns in
     record {
-      sweep = sweep_more c.loop-m.invariant.sweep c.loop-m-test.true (held s c.args.planes.now l) done plane
+      sweep = sweep_more c.loop-m.invariant.sweep c.loop-m-test.true (held s c.args.planes.now l)
+          (counted-steps s.cycle a.own.now a.entering.now a.leaving.now steps 0 m (s.columns + l) taken moved) plane
           (λ j h.
           let inside : j < base + s.columns - base = omega arith in
+          let first : 0 + (l + j) ≡ l + j = omega arith in
           rw (
             part-reads c.loop-m.planes base (base + s.columns - base) j inside,
             sweep_held c.loop-m.invariant.sweep c.loop-m-test.true j h,
-            ← (stored.holds j h),
+            ← (rw first at (stored.holds (l + j) (omega arith))),
           ))
           (λ j h. omega arith);
-      long = upper.len ∙ lower.len ∙ long;
+      long = moved.len ∙ long;
     }
 
 pub returns-clause-fronts : goal.returns-clause-fronts

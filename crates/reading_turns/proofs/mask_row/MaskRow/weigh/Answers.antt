@@ -1,14 +1,13 @@
 -- `reading_turns::mask_row::MaskRow::weigh` meets its contract: the plane is weighed with the readings, and from the centres, of its windows.
 -- Assumes nothing.
-use Prim.Native.Nat.{ℕ, ◌+◌, ◌-◌, ◌≤◌, ◌<◌}
+use Prim.Native.Nat.{ℕ, ◌+◌, ◌-◌, ◌<◌}
 use mathlib.Core.Path.{◌≡◌, ◌∙◌}
-use mathlib.Core.List.{List}
 use native.Mathlib.Omega.{arith}
 use lib.ListN.{length, get_or, take, drop}
 use Rattle.std.proofs.lemmas.List.{length-take, length-drop}
 use Rattle.memory.proofs.Memory.{changed_done, part-reads}
 use Rattle.reading_planes.specs.Sums.{reading_sum}
-use Rattle.reading_planes.proofs.Sums.{sizes, line_room}
+use Rattle.reading_planes.proofs.Sums.{line_room}
 use Rattle.reading_choice.proofs.RowLaws.{row_signed, plane_signed, row_more}
 use Rattle.reading_turns.proofs.mask_row.MaskRow.weigh.Goals as goal
 use Rattle.reading_turns.proofs.mask_row.MaskRow.weigh.Goals.{Start}

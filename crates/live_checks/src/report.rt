@@ -1,0 +1,36 @@
+// Where answers are printed, and what is counted of them.
+use crate::tally::Tally;
+use std::io;
+use std::io::Write;
+
+#[derive(Debug, Drop)]
+pub struct Report<W> {
+    pub out: W,
+    pub tally: Tally,
+}
+
+impl<W: Write> Report<W> {
+    pub fn new(out: W) -> Report<W> {
+        Report {
+            out,
+            tally: Tally::default(),
+        }
+    }
+
+    // Counts a comparison, and prints a word if it found a difference.
+    pub fn judge(&mut self, so: bool, word: &str) -> io::Result<()> {
+        self.tally.test(so);
+        if so {
+            Ok(())
+        } else {
+            write!(self.out, " {word}")
+        }
+    }
+
+    // Prints what was counted, at last.
+    pub fn end(&mut self) -> io::Result<()> {
+        let tally = self.tally;
+        write!(self.out, "{tally}")?;
+        self.out.flush()
+    }
+}

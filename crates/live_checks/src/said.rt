@@ -1,0 +1,86 @@
+// What a live window's calls are answered, and lists of it in print.
+use cycle::SILENT;
+use live::Live;
+use refusal::Refusal;
+use std::fmt;
+
+#[derive(Clone, Copy, Debug, PartialEq, Eq)]
+pub enum Said {
+    Fresh,
+    Filling,
+    Phase(u16),
+    Silent,
+    // An answer, of which nothing more is promised.
+    Answered,
+    Refused(Refusal),
+}
+
+impl Said {
+    pub fn is_refused(self) -> bool {
+        matches!(self, Said::Refused(_))
+    }
+}
+
+impl From<Result<(), Refusal>> for Said {
+    fn from(told: Result<(), Refusal>) -> Said {
+        match told {
+            Ok(()) => Said::Fresh,
+            Err(refusal) => Said::Refused(refusal),
+        }
+    }
+}
+
+impl From<Result<Live, Refusal>> for Said {
+    fn from(told: Result<Live, Refusal>) -> Said {
+        match told {
+            Ok(Live::Filling) => Said::Filling,
+            Ok(Live::Phase(phase)) => Said::Phase(phase),
+            Ok(Live::Silent) => Said::Silent,
+            Err(refusal) => Said::Refused(refusal),
+        }
+    }
+}
+
+// A phase of an image, or a number that stands in a window.
+impl From<u16> for Said {
+    fn from(phase: u16) -> Said {
+        if phase == SILENT {
+            Said::Silent
+        } else {
+            Said::Phase(phase)
+        }
+    }
+}
+
+impl fmt::Display for Said {
+    fn fmt<W: fmt::Write>(&self, f: &mut fmt::Formatter<W>) -> fmt::Result {
+        match self {
+            Said::Fresh => write!(f, "fresh"),
+            Said::Filling => write!(f, "filling"),
+            Said::Phase(phase) => write!(f, "{phase}"),
+            Said::Silent => write!(f, "silent"),
+            Said::Answered => write!(f, "answered"),
+            Said::Refused(refusal) => write!(f, "{refusal}"),
+        }
+    }
+}
+
+// A list in the manner of a case, each after a space: `3 of 8` is 8, three times.
+#[derive(Clone, Copy, Debug)]
+pub struct Runs<'a, T>(pub &'a [T]);
+
+impl<'a, T: Copy + PartialEq + Into<Said>> fmt::Display for Runs<'a, T> {
+    fn fmt<W: fmt::Write>(&self, f: &mut fmt::Formatter<W>) -> fmt::Result {
+        for run in self.0.chunk_by(|a, b| a == b) {
+            let Some(first) = run.first() else {
+                continue;
+            };
+            let said: Said = (*first).into();
+            match run.len() {
+                1 => write!(f, " {said}")?,
+                times => write!(f, " {times} of {said}")?,
+            }
+        }
+        Ok(())
+    }
+}
