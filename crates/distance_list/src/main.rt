@@ -1,4 +1,4 @@
-// Prints the distances on 360 ticks by the formula, from tick 0 to each tick: the lines of the list in
+// Prints the distances on 360 ticks by the formula, from tick 0 to each tick: the numbers of the list in
 // crates/cycle/src/list.rt (document 02, T-05), which it does not read. It takes no input, so its one run, compared
 // with the file stdout, is all that it does.
 #![tactic(auto)]

@@ -1,5 +1,5 @@
 // What the programs that run the calls share: standard input, the numbers of a case, and answers in print. Nothing here
-// is a call of document 01, and no contract says more than what a program needs to be safe.
+// is a call of document 01: it is proved safe, and what it prints is tested by the programs' stored output.
 #![tactic(auto)]
 
 pub mod cases;
