@@ -1,5 +1,5 @@
-// Distances on 360 ticks, the cycle of most racks, from a list (document 02, T-05). Its numbers, one to a line, are
-// what the program `distance_list` prints; tools/same_list compares the two.
+// Distances on 360 ticks, the cycle of most racks, from a list (document 02, T-05). Its numbers are what
+// the program `distance_list` prints, one to a line; tools/same_list compares the two.
 ghost use Rattle.std.specs.Prelude.{◌≡◌, if◌then◌else◌, nat_lt};
 ghost use Rattle.cycle.specs.List.{listed_cycle, entry};
 

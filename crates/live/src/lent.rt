@@ -11,7 +11,7 @@ use cycle::SILENT;
 use live_passes::{enter, phase_in};
 use refusal::Refusal;
 
-// Makes the arrays those of a fresh window of C and T.
+// Makes the arrays those of a fresh window of C and T: C lends them, where `LiveWindow::fresh` makes a value.
 #[tactic(auto, using(crate::proofs::Calls::empty_window), unfolding(crate::specs::Calls::fresh_due))]
 pub fn fresh_in(
     cycle: u32,

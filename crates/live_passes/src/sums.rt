@@ -7,7 +7,7 @@ use cycle::apart;
 
 // The newest reading enters a window, and the oldest leaves. The others move a place to the front, each with its
 // sum: the distance to the newest added, that to the oldest taken off. What the newest adds to them all is its own
-// sum. The readings and their sums are two arrays, and the pass over them has no branch, for packed instructions.
+// sum. The readings and their sums are two arrays, for packed instructions: `apart`'s test of the cycle leaves the loop.
 pub fn enter(cycle: u16, newest: u16, readings: &mut [u16], sums: &mut [u16])
     requires some { 0 < length readings.old }
     requires sums_alike { length sums.old ≡ length readings.old }

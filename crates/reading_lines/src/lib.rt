@@ -1,5 +1,5 @@
-// Passes over lines of readings, for the reading engine: what readings add to sums, steps, changes. Each is
-// one loop without a branch over contiguous numbers, so that it compiles to packed instructions. Those that
+// Passes over lines of readings, for the reading engine: what readings add to sums, steps, changes. Each goes
+// without a branch over contiguous numbers, so that it compiles to packed instructions. Those that
 // measure are told whether silence needs no test (`plain`). Internal: each has a `requires`, which the engine
 // meets.
 #![tactic(auto)]
