@@ -90,11 +90,6 @@ pub way_by_code : (c a q t : ℕ) → a < 2 ^ 16 → t ≡ cond (leb a q) 0 c �
 unfolding way_to
 way_by_code c a q t h e = rw (← e) (omega arith)
 
--- what is added for a way behind is at most one (live_passes)
-pub one_more : (b : Bool) → cond b 0 1 ≤ 1
-one_more true = omega arith
-one_more false = omega arith
-
 -- and the rank: e ticks ahead and r behind, d the lesser, and m for one more
 pub rank_by_code : (c e : ℕ) {r d m : ℕ} → r ≡ c - e → d ≡ min e r → m ≡ bool_byte (not (eqb d e)) → d + d + m ≡ rank_by c e
 unfolding rank_by
