@@ -42,10 +42,6 @@ mask_rows_next {s} {image} {i} {k} r h x y = record {
   outside = outside_more r.outside (outside-need s (i + k) x.1 (omega arith));
 }
 
--- in the first row of a range none is kept
-pub kept_none : {s : Shape} {image w : List ℕ} {i : ℕ} → 0 < s.mask_rows → Kept s image i 0 w
-kept_none h = record { some_left = h; begun = λ g. absurd (omega arith); sums = λ a u v. absurd (omega arith) }
-
 -- all but the first mask row of a row are kept for the next
 pub kept_next : {s : Shape} {image w : List ℕ} {i : ℕ} → 0 < s.mask_rows → MaskSums s image i w i (i + s.mask_rows)
     → Kept s image (i + 1) (s.mask_rows - 1) w
