@@ -1,11 +1,10 @@
 // The rows of a range, one after the other.
-ghost use Rattle.std.specs.Prelude.{◌≡◌, ◌+◌, ◌-◌, ◌*◌, ◌≤◌, ◌<◌, length};
+ghost use Rattle.std.specs.Prelude.{◌≡◌, ◌+◌, ◌*◌, ◌≤◌, ◌<◌, length};
 ghost use Rattle.lists.specs.Tabulate.{tabulate};
 ghost use Rattle.refusal.specs.Limits.{longest_cycle};
 ghost use Rattle.shape.specs.Need.{reading_need};
 ghost use Rattle.memory.specs.Memory.{Outside};
 ghost use Rattle.window.specs.Phase.{phase_at};
-ghost use Rattle.lines.specs.Lines.{PaddedLine};
 ghost use Rattle.lines.specs.Rows.{Fillable, Filled};
 ghost use Rattle.reading_planes.specs.Sums.{MaskSums};
 ghost use Rattle.reading_choice.specs.Weighed.{RowWeighed};
@@ -17,16 +16,21 @@ use reading_planes::{place_of, planes_length};
 use reading_turns::{Memory, Row, enter, stay};
 use std::ops::Range;
 
+// Memory for the lines that a row shares with its mask rows: the centres and the last row of its windows.
+#[derive(Drop)]
+struct Lines {
+    centres: Line,
+    last: Line,
+}
+
 // The first `kept` mask rows of a row, carried from the row before it.
 fn carry_rows(row: &Row, kept: usize, work: &mut [u32], memory: &mut Memory)
     requires kept { Kept row.now.image.shape row.now.image.readings.now row.now.i kept work.old }
     requires room { reading_need row.now.image.shape ≤ length work.old }
-    requires entering { PaddedLine row.now.image.shape row.now.image.readings.now (row.now.i + row.now.image.shape.mask_rows - 1) memory.old.last }
     requires weighed { RowWeighed row.now.image.shape row.now.image.readings.now row.now.i 0 0 memory.old.best.least memory.old.best.nearest }
     ensures sums { MaskSums row.now.image.shape row.now.image.readings.now row.now.i work.new row.now.i (row.now.i + kept) }
     ensures outside { Outside work.old work.new 0 (reading_need row.now.image.shape) }
     ensures weighed_kept { RowWeighed row.now.image.shape row.now.image.readings.now row.now.i kept 0 memory.new.best.least memory.new.best.nearest }
-    ensures entering_stays { PaddedLine row.now.image.shape row.now.image.readings.now (row.now.i + row.now.image.shape.mask_rows - 1) memory.new.last }
 {
     if kept == 0 {
         return;
@@ -43,7 +47,6 @@ fn carry_rows(row: &Row, kept: usize, work: &mut [u32], memory: &mut Memory)
 fn build_rows(row: &Row, kept: usize, work: &mut [u32], memory: &mut Memory)
     requires kept { kept ≤ row.now.image.shape.mask_rows }
     requires room { reading_need row.now.image.shape ≤ length work.old }
-    requires last_row { PaddedLine row.now.image.shape row.now.image.readings.now (row.now.i + row.now.image.shape.mask_rows - 1) memory.old.last }
     requires sums_kept { MaskSums row.now.image.shape row.now.image.readings.now row.now.i work.old row.now.i (row.now.i + kept) }
     requires weighed_kept { RowWeighed row.now.image.shape row.now.image.readings.now row.now.i kept 0 memory.old.best.least memory.old.best.nearest }
     ensures sums { MaskSums row.now.image.shape row.now.image.readings.now row.now.i work.new row.now.i (row.now.i + row.now.image.shape.mask_rows) }
@@ -64,7 +67,7 @@ fn one_row(
     i: usize,
     kept: usize,
     work: &mut [u32],
-    centres: &mut Line,
+    lines: &mut Lines,
     memory: &mut Memory,
     out: &mut [u16],
 )
@@ -77,17 +80,18 @@ fn one_row(
     ensures outside { Outside work.old work.new 0 (reading_need image.now.shape) }
 {
     let shape = image.shape;
-    image.centres(i, centres, &mut memory.own);
-    image.pad(i + shape.mask_rows as usize - 1, &mut memory.last);
+    image.centres(i, &mut lines.centres, &mut memory.own);
+    image.pad(i + shape.mask_rows as usize - 1, &mut lines.last);
     memory.best.reset(shape.columns as usize);
     let row = Row {
         image: *image,
         i,
-        centres: &*centres,
+        centres: &lines.centres,
+        last: &lines.last,
     };
     carry_rows(&row, kept, work, memory);
     build_rows(&row, kept, work, memory);
-    memory.best.phases(shape.cycle, &centres[..], out);
+    memory.best.phases(shape.cycle, &lines.centres, out);
 }
 
 // The rows of a range of the output, each lent in its turn.
@@ -96,7 +100,7 @@ fn each_row(
     rows: Range<usize>,
     output: &mut [u16],
     work: &mut [u32],
-    centres: &mut Line,
+    lines: &mut Lines,
     memory: &mut Memory,
 )
     requires { Fillable longest_cycle reading_need image.now.shape image.now.readings.now rows.start rows.end (length output.old) (length work.old) }
@@ -112,7 +116,7 @@ fn each_row(
         };
         let start = i * columns;
         let out = &mut output[start..start + columns];
-        one_row(image, i, kept, work, centres, memory, out);
+        one_row(image, i, kept, work, lines, memory, out);
     }
 }
 
@@ -123,10 +127,12 @@ pub fn fill(image: &Image, rows: Range<usize>, output: &mut [u16], work: &mut [u
     requires { Fillable longest_cycle reading_need image.now.shape image.now.readings.now rows.start rows.end (length output.old) (length work.old) }
     ensures { Filled reading_need image.now.shape image.now.readings.now rows.start rows.end output.old output.new work.old work.new }
 {
-    let mut centres = [0; LINE];
+    let mut lines = Lines {
+        centres: [0; LINE],
+        last: [0; LINE],
+    };
     let mut memory = Memory {
         own: [0; LINE],
-        last: [0; LINE],
         row: [0; LINE],
         other: [0; LINE],
         gains: [0; LINE],
@@ -136,5 +142,5 @@ pub fn fill(image: &Image, rows: Range<usize>, output: &mut [u16], work: &mut [u
             nearest: [0; LINE],
         },
     };
-    each_row(image, rows, output, work, &mut centres, &mut memory);
+    each_row(image, rows, output, work, &mut lines, &mut memory);
 }

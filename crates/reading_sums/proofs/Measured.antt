@@ -1,10 +1,11 @@
 -- Lines that hold readings may be measured against each other, as far as a padded row goes. Assumes nothing.
 use Prim.Native.Nat.{ℕ, ◌+◌, ◌≤◌, ◌<◌}
 use mathlib.Core.Path.{◌≡◌, sym, ◌∙◌}
-use mathlib.Core.Logic.{inl, inr}
+use mathlib.Core.Logic.{inl, inr, ∥∥₁_elim}
 use mathlib.Core.Bool.{Bool, true}
 use mathlib.Core.List.{List}
 use native.Mathlib.Omega.{arith}
+use denote.Struct.Props.{props}
 use lib.ListN.{get_or, take, drop}
 use Rattle.std.proofs.lemmas.List.{length-take, length-drop}
 use Rattle.memory.proofs.Memory.{part-reads}
@@ -16,15 +17,19 @@ use Rattle.shape.specs.Rules.{shape_rules}
 use Rattle.shape.specs.declared.Shape.{Shape}
 use Rattle.median.specs.Sum.{share, is_short}
 use Rattle.median.proofs.Sum.{share-heard, share_short}
-use Rattle.lines.specs.Lines.{Reads, line_length, padded_length}
+use Rattle.lines.specs.Lines.{Reads, IsLine, line_length, padded_length}
 use Rattle.reading_lines.specs.Passes.{Measurable}
 use Rattle.reading_lines.specs.Listed.{ListedReadings}
 use Rattle.reading_planes.proofs.Sums.{sizes}
-use Rattle.reading_sums.specs.CarryLines.{Plain}
+use Rattle.reading_sums.specs.CarryLines.{Plain, CarryLines}
 
 -- a short cycle needs no test
 pub short_plain : (s : Shape) (own row : List ℕ) {plain : Bool} → plain ≡ is_short s.cycle → plain ≡ true → Plain s own row
 short_plain s own row e p = inl (sym e ∙ p)
+
+-- a line whose planes are carried is as long as a line
+pub carried_long : {plain : Bool} {s : Shape} {own entering leaving : List ℕ} → ∥ CarryLines plain s own entering leaving ∥₁ → IsLine own
+carried_long x = ∥∥₁_elim x (hlevel props) (λ c. c.own_reads.len)
 
 module _ (s : Shape) (clear : Clear (shape_rules longest_cycle s)) where
   padded-fits : padded_length s ≤ line_length
@@ -49,6 +54,16 @@ module _ (s : Shape) (clear : Clear (shape_rules longest_cycle s)) where
           let within : j < m = omega arith in
           rw (part-reads own l k j inside, part-reads row at m j within) (gains t (l + j) (at + j) (omega arith) (omega arith));
     }
+
+  -- so may the lines of a sweep that carries
+  module _ {plain : Bool} {own entering leaving : List ℕ} (x : ∥ CarryLines plain s own entering leaving ∥₁) where
+    pub entering_measurable : (l at k m : ℕ) → k ≤ m → l + k ≤ padded_length s → at + m ≤ padded_length s
+        → Measurable plain s.cycle (take k (drop l own)) (take m (drop at entering))
+    entering_measurable l at k m e h g = ∥∥₁_elim x (hlevel props) (λ c. measurable c.own_reads c.entering_reads c.entering_plain l at k m e h g)
+
+    pub leaving_measurable : (l at k m : ℕ) → k ≤ m → l + k ≤ padded_length s → at + m ≤ padded_length s
+        → Measurable plain s.cycle (take k (drop l own)) (take m (drop at leaving))
+    leaving_measurable l at k m e h g = ∥∥₁_elim x (hlevel props) (λ c. measurable c.own_reads c.leaving_reads c.leaving_plain l at k m e h g)
 
 -- on the list's cycle parts of such lines meet what is asked by `distances_listed` and its companions (reading_lines/proofs/Listed.antt)
 pub reads-listed : (s : Shape) {line : List ℕ} → s.cycle ≡ listed_cycle → Reads s line → (at k n : ℕ) → n ≤ k → at + n ≤ padded_length s

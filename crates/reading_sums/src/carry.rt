@@ -22,14 +22,14 @@ pub struct Carried<'a> {
     pub entering: &'a Line,
     pub leaving: &'a Line,
     pub plain: bool,
+    ghost accepted: { Clear (shape_rules longest_cycle shape) },
+    ghost lines: { ∥ CarryLines plain shape own.now entering.now leaving.now ∥₁ },
 }
 
 impl<'a> Carried<'a> {
     // The sweep ahead, over every plane.
     pub fn ahead(&self, planes: &mut [u32], changes: &mut Changes, stepped: &mut Line)
-        requires accepted { Clear (shape_rules longest_cycle self.now.shape) }
-        requires all_planes { length planes.old ≡ planes_length self.now.shape }
-        requires lines { CarryLines self.now.plain self.now.shape self.now.own.now self.now.entering.now self.now.leaving.now }
+        requires { length planes.old ≡ planes_length self.now.shape }
         ensures fronts { Fronts self.now.shape planes.new (held self.now.shape planes.old)
             (of_line self.now.shape.cycle self.now.own.now self.now.entering.now)
             (of_line self.now.shape.cycle self.now.own.now self.now.leaving.now) 0 }
@@ -73,10 +73,8 @@ impl<'a> Carried<'a> {
 
     // One turn of the sweep behind: plane l, from the changes of the plane before it.
     pub fn behind(&self, l: usize, plane: &mut [u32], changes: &mut Changes, stepped: &mut Line)
-        requires accepted { Clear (shape_rules longest_cycle self.now.shape) }
         requires later_plane { (0 < l) × (l < self.now.shape.mask_columns) }
         requires one_plane { length plane.old ≡ self.now.shape.columns }
-        requires lines { CarryLines self.now.plain self.now.shape self.now.own.now self.now.entering.now self.now.leaving.now }
         requires behind { Behind self.now.shape
             (of_line self.now.shape.cycle self.now.own.now self.now.entering.now)
             (of_line self.now.shape.cycle self.now.own.now self.now.leaving.now) changes.old (l - 1) }

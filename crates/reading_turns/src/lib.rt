@@ -16,8 +16,6 @@ pub use turns::{enter, stay};
 pub struct Memory {
     // The readings whose planes are swept.
     pub own: Line,
-    // The last row of the windows, which enters them.
-    pub last: Line,
     // The row that leaves the windows, or one that is counted.
     pub row: Line,
     // Another one that is counted.

@@ -1,5 +1,5 @@
 // A row of the output, and one of its mask rows, of which a plane is weighed after the other.
-ghost use Rattle.std.specs.Prelude.{◌≡◌, ◌+◌, ◌<◌, length};
+ghost use Rattle.std.specs.Prelude.{◌≡◌, ◌+◌, ◌-◌, ◌<◌, length};
 ghost use Rattle.memory.specs.Memory.{Each};
 ghost use Rattle.lines.specs.Lines.{PaddedLine, Centres};
 ghost use Rattle.reading_planes.specs.Sums.{reading_sum};
@@ -8,14 +8,16 @@ ghost use Rattle.reading_choice.specs.Weighed.{RowWeighed};
 use lines::{Image, Line};
 use reading_choice::Best;
 
-// Row i of the output, with the centres of its windows.
+// Row i of the output, with the centres and the last row of its windows.
 #[derive(Clone, Copy)]
 pub struct Row<'a> {
     pub image: Image<'a>,
     pub i: usize,
     pub centres: &'a Line,
+    pub last: &'a Line,
     ghost inside: { i < image.shape.rows },
     ghost centred: { Centres image.shape image.readings.now i centres.now },
+    ghost last_row: { PaddedLine image.shape image.readings.now (i + image.shape.mask_rows - 1) last.now },
 }
 
 // Mask row k of it, with the line of its readings.
@@ -42,6 +44,7 @@ impl<'a> MaskRow<'a> {
             image,
             i: _,
             centres,
+            last: _,
         } = row;
         let n = plane.len();
         best.weigh(

@@ -8,11 +8,7 @@ pub loop-k-preserved : goal.loop-k-preserved
 loop-k-preserved c =
     let r = c.args.row.now in
     let s = r.image.shape in
-    let inv = c.loop-k.invariant in
     let start = c.place_of-start.ensures in
     let back = sums_back {w = c.loop-k.work} _ _ start (omega (arith, c.planes_length-n.ensures)) c.enter.new.planes
     (omega (arith, start, place-room s (r.i + c.loop-k.k) (omega arith), c.requires.room, c.loop-k.auto.work)) c.enter.auto.planes c.enter.ensures.sums in
-    record {
-      done = mask_rows_next inv.done (omega arith) back c.enter.ensures.weighed_next;
-      last_row = rw c.enter.ensures.last_kept inv.last_row;
-    }
+    mask_rows_next c.loop-k.invariant (omega arith) back c.enter.ensures.weighed_next

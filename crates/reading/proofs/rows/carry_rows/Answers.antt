@@ -23,6 +23,5 @@ loop-k-preserved c =
     record {
       done = mask_rows_next inv.done (omega (arith, c.requires.kept.some_left)) back c.stay.ensures.weighed_next;
       left = sums_left s r.image.readings.now r.i k back.1 (omega (arith, c.requires.kept.some_left)) inv.left;
-      entering = rw c.stay.ensures.entering_kept inv.entering;
       leaving = rw c.stay.ensures.leaving_kept inv.leaving;
     }

@@ -11,6 +11,5 @@ invariant-loop-k l = let s = l.row.image.shape in let image = l.row.image.readin
     record {
       done : MaskRows s image l.row.i l.k l.initial.work l.work l.memory.best.least l.memory.best.nearest;
       left : MaskSums s image (l.row.i - 1) l.work (l.row.i + l.k) (l.row.i + l.kept);
-      entering : PaddedLine s image (l.row.i + s.mask_rows - 1) l.memory.last;
       leaving : PaddedLine s image (l.row.i - 1) l.memory.row;
     }

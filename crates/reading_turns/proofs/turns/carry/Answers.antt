@@ -1,45 +1,68 @@
 use Prim.Native.Nat.{◌+◌, ◌-◌, ◌*◌}
-use mathlib.Core.Path.{◌≡◌, refl, sym, ◌∙◌}
+use mathlib.Core.Path.{◌≡◌, refl, ◌∙◌}
 use native.Mathlib.Omega.{arith}
-use Rattle.reading_planes.specs.Planes.{held}
-use Rattle.reading_planes.proofs.Sums.{sizes}
 use Rattle.reading_choice.proofs.RowLaws.{row_last}
-use Rattle.reading_turns.proofs.Sweeping.{sweeping_first, sweeping_more, sweeping_plane, sweeping_last}
+use Rattle.reading_turns.proofs.Sweeping.{carried_first, sweeping_more, sweeping_plane, sweeping_last}
 use Rattle.reading_turns.proofs.turns.carry.Goals as goal
+
+pub invariant_of-sweep : goal.invariant_of-sweep
+invariant_of-sweep c =
+    let a = c.args.mask_row.now in
+    record {
+      accepted = a.row.image.ready.shape;
+      lines = ∣ record {
+        own_reads = a.line.reads;
+        entering_reads = a.row.last_row.reads;
+        leaving_reads = c.requires.leaving_row.reads;
+        entering_plain = λ e. (c.is_plain-plain.ensures e).0;
+        leaving_plain = λ e. (c.is_plain-plain.ensures e).1;
+      } ∣₁;
+    }
+
+pub weigh-requires-clause-sums : goal.weigh-requires-clause-sums
+weigh-requires-clause-sums c =
+    let a = c.args.mask_row.now in
+    let r = a.row in
+    let p = c.requires in
+    let first = carried_first r.image.ready r.inside a.line (c.ahead.auto.planes ∙ p.all_planes) p.later_row r.last_row p.leaving_row p.sums_before
+    c.ahead.ensures.fronts c.ahead.ensures.behind in
+    sweeping_plane 0 0 r.image.shape.columns first (omega arith) (omega arith) refl
 
 pub loop-l-init : goal.loop-l-init
 loop-l-init c =
-    let s = c.args.sweep.now.shape in
+    let a = c.args.mask_row.now in
+    let r = a.row in
+    let p = c.requires in
     record {
-      sweeping = sweeping_first (held s c.args.planes.now) (omega (arith, (sizes s (rw (sym c.requires.same_shape) at c.args.mask_row.now.row.image.ready.shape)).mask_columns_odd)) (c.ahead.auto.planes ∙ c.requires.all_planes) c.requires.completed
+      sweeping = carried_first r.image.ready r.inside a.line (c.ahead.auto.planes ∙ p.all_planes) p.later_row r.last_row p.leaving_row p.sums_before
           c.ahead.ensures.fronts c.ahead.ensures.behind;
-      weighed = rw (sym c.requires.same_shape) at c.weigh.ensures;
+      weighed = c.weigh.ensures;
     }
 
 pub weigh-requires-in-loop-l-clause-sums : goal.weigh-requires-in-loop-l-clause-sums
 weigh-requires-in-loop-l-clause-sums c =
-    let s = c.args.sweep.now.shape in
+    let s = c.args.mask_row.now.row.image.shape in
     let l = c.loop-l.l in
     let base = l * s.columns in
     let k = base + s.columns - base in
     let next = sweeping_more l base k c.behind.new.plane c.loop-l.invariant.sweeping c.loop-l-test.true refl (omega arith) c.behind.auto.plane
     c.behind.ensures.gained c.behind.ensures.behind_next in
-    rw (sym c.requires.same_shape) (sweeping_plane l base k next (omega arith) refl (omega arith))
+    sweeping_plane l base k next (omega arith) refl (omega arith)
 
 pub loop-l-preserved : goal.loop-l-preserved
 loop-l-preserved c =
-    let s = c.args.sweep.now.shape in
+    let s = c.args.mask_row.now.row.image.shape in
     let l = c.loop-l.l in
     let base = l * s.columns in
     let k = base + s.columns - base in
     record {
       sweeping = sweeping_more l base k c.behind.new.plane c.loop-l.invariant.sweeping c.loop-l-test.true refl (omega arith) c.behind.auto.plane
           c.behind.ensures.gained c.behind.ensures.behind_next;
-      weighed = rw (sym c.requires.same_shape) at c.weigh-in-loop-l.ensures;
+      weighed = c.weigh-in-loop-l.ensures;
     }
 
 pub returns : goal.returns
 returns c =
     let inv = c.loop-l.invariant in
-    let all : c.loop-l.l ≡ c.args.sweep.now.shape.mask_columns = omega (arith, inv.sweeping.within, c.loop-l-test.false) in
+    let all : c.loop-l.l ≡ c.args.mask_row.now.row.image.shape.mask_columns = omega (arith, inv.sweeping.within, c.loop-l-test.false) in
     record { sums = sweeping_last inv.sweeping (omega arith); weighed_next = row_last (rw all at inv.weighed) }

@@ -7,23 +7,21 @@ use lib.ListN.{get_or}
 use Rattle.memory.proofs.Memory.{changed_part}
 use Rattle.reading_planes.proofs.Sums.{sizes, line_room}
 use Rattle.reading_planes.proofs.Sweeps.{behind_more}
-use Rattle.reading_sums.proofs.Measured.{measurable}
+use Rattle.reading_sums.proofs.Measured.{carried_long, entering_measurable, leaving_measurable}
 use Rattle.reading_sums.proofs.Turns.{steps-read, moved-part, counted-steps}
 use Rattle.reading_sums.proofs.carry.Carried.behind.Goals as goal
 
 pub steps-requires-clause-by_entering : goal.steps-requires-clause-by_entering
 steps-requires-clause-by_entering c =
-    let s = c.args.self.now in
-    let x = c.requires.lines in
-    let odd = (sizes s.shape c.requires.accepted).mask_columns_odd in
-    measurable s.shape c.requires.accepted x.own_reads x.entering_reads x.entering_plain c.args.l 0 _ _ (omega arith) (omega (arith, odd)) (omega (arith, odd))
+    let a = c.args.self.now in
+    let odd = (sizes a.shape a.accepted).mask_columns_odd in
+    entering_measurable a.shape a.accepted a.lines c.args.l 0 _ _ (omega arith) (omega (arith, odd)) (omega (arith, odd))
 
 pub steps-requires-clause-by_leaving : goal.steps-requires-clause-by_leaving
 steps-requires-clause-by_leaving c =
-    let s = c.args.self.now in
-    let x = c.requires.lines in
-    let odd = (sizes s.shape c.requires.accepted).mask_columns_odd in
-    measurable s.shape c.requires.accepted x.own_reads x.leaving_reads x.leaving_plain c.args.l 0 _ _ (omega arith) (omega (arith, odd)) (omega (arith, odd))
+    let a = c.args.self.now in
+    let odd = (sizes a.shape a.accepted).mask_columns_odd in
+    leaving_measurable a.shape a.accepted a.lines c.args.l 0 _ _ (omega arith) (omega (arith, odd)) (omega (arith, odd))
 
 pub returns : goal.returns
 returns c =
@@ -31,10 +29,10 @@ returns c =
     let s = a.shape in
     let l = c.args.l in
     let rest = s.mask_columns - 1 - l in
-    let room = line_room s c.requires.accepted in
+    let room = line_room s a.accepted in
     let steps = c.steps.new.steps in
     let taken = steps-read s.cycle a.own.now a.entering.now a.leaving.now l 0 _ _ (s.columns + rest) (omega arith) (omega arith)
-    (omega (arith, c.requires.lines.own_reads.len, room)) c.steps.ensures in
+    (omega (arith, carried_long a.lines, room)) c.steps.ensures in
     let moved = moved-part {z = c.args.changes.now} steps (s.cycle / 2) l _ (s.columns + rest) 0 _ c.move_add.new.changes (omega (arith, c.told-changes, room))
     (omega arith) (omega arith) c.move_add.auto.changes c.move_add.ensures.changes_moved in
     let stored = changed_part {w = c.args.changes.now} {base = l} {n = s.columns + rest} c.move_add.new.changes (omega (arith, c.told-changes, room)) (omega arith)
