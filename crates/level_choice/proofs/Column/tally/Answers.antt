@@ -1,7 +1,7 @@
 use native.Mathlib.Omega.{arith}
 use Rattle.refusal.specs.Limits.{longest_cycle}
 use Rattle.level_choice.proofs.Count.{tallied_none, tallied_more, count_small, places_small}
-use Rattle.level_choice.proofs.tally_of.Goals as goal
+use Rattle.level_choice.proofs.Column.tally.Goals as goal
 
 pub loop-q-init : goal.loop-q-init
 loop-q-init c = tallied_none
