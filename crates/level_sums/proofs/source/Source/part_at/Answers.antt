@@ -1,7 +1,7 @@
--- `level_sums::columns::Source::part_at` meets its contract. Assumes nothing.
+-- `level_sums::source::Source::part_at` meets its contract. Assumes nothing.
 use native.Mathlib.Omega.{arith}
 use Rattle.window.proofs.Window.{padded-reading}
-use Rattle.level_sums.proofs.columns.Source.part_at.Goals as goal
+use Rattle.level_sums.proofs.source.Source.part_at.Goals as goal
 
 pub part_of-start-requires-clause-reading : goal.part_of-start-requires-clause-reading
 part_of-start-requires-clause-reading c =

@@ -1,11 +1,11 @@
--- `level_sums::columns::part_of` meets its contract. Assumes nothing.
+-- `level_sums::source::part_of` meets its contract. Assumes nothing.
 use Prim.Native.Nat.{ℕ, ◌-◌, ◌<◌}
 use mathlib.Core.Path.{refl, ap}
 use native.Mathlib.Omega.{arith}
 use Rattle.cycle.proofs.SilenceLaws.{not_silent, heard-tick}
 use Rattle.level_sums.proofs.TableLaws.{part-tick, part-silent}
-use Rattle.level_sums.proofs.columns.part_of.Goals as goal
-use Rattle.level_sums.proofs.columns.part_of.Goals.{Else-reading-eq-SILENT}
+use Rattle.level_sums.proofs.source.part_of.Goals as goal
+use Rattle.level_sums.proofs.source.part_of.Goals.{Else-reading-eq-SILENT}
 
 -- a reading that is not silent is a tick
 tick : (c : Else-reading-eq-SILENT) → c.args.reading < c.args.cycle
