@@ -11,7 +11,9 @@ ghost use Rattle.level.specs.Rows.{Choosable, ChosenBy, PhasesOf, RowsWritten};
 
 use cycle::SILENT;
 use level_choice::choose;
-use level_sums::columns::Source;
+use level_sums::row::Row;
+use level_sums::source::Source;
+use level_sums::step::Step;
 use level_sums::table::{TABLE, distances};
 use lines::{Image, LINE, Line};
 use memory::lowest_of;
@@ -46,45 +48,36 @@ fn settled(centre: u16, sums: &[u32]) -> u16
     phase_of(centre, sums, lowest_of(sums))
 }
 
-// Row i, set up afresh.
-fn first_row(source: &Source, i: usize, sums: &mut [u32], lines: &mut Lines, out: &mut [u16])
-    requires image_row { i < source.now.image.shape.rows }
-    requires room { IsRow source.now.image sums.old }
-    requires width { length out.old ≡ source.now.image.shape.columns }
-    ensures phases { PhasesOf source.now.image i out.new }
-    ensures sums { RowSums source.now.image i sums.new 0 source.now.image.shape.columns }
+// A row, set up afresh.
+fn first_row(row: &Row, sums: &mut [u32], lines: &mut Lines, out: &mut [u16])
+    requires room { IsRow row.now.source.image sums.old }
+    requires width { length out.old ≡ row.now.source.image.shape.columns }
+    ensures phases { PhasesOf row.now.source.image row.now.i out.new }
+    ensures sums { RowSums row.now.source.image row.now.i sums.new 0 row.now.source.image.shape.columns }
 {
-    let cycle = source.image.shape.cycle as usize;
-    source.image.centres(i, &mut lines.centres, &mut lines.row);
+    let image = &row.source.image;
+    let cycle = image.shape.cycle as usize;
+    image.centres(row.i, &mut lines.centres, &mut lines.row);
     for (j, phase) in out.iter_mut().enumerate() {
-        source.set_up(i, j, sums);
+        row.set_up(j, sums);
         *phase = settled(lines.centres[j], &sums[j * cycle..(j + 1) * cycle]);
     }
 }
 
-// Row i + 1, from the sums of row i.
-fn next_row(
-    source: &Source,
-    i: usize,
-    sums: &mut [u32],
-    change: &mut [u32],
-    lines: &mut Lines,
-    out: &mut [u16],
-)
-    requires next { i + 1 < source.now.image.shape.rows }
-    requires room { IsRow source.now.image sums.old }
-    requires ticks { IsColumn source.now.image change.old }
-    requires width { length out.old ≡ source.now.image.shape.columns }
-    requires sums { RowSums source.now.image i sums.old 0 source.now.image.shape.columns }
-    ensures phases { PhasesOf source.now.image (i + 1) out.new }
-    ensures sums { RowSums source.now.image (i + 1) sums.new 0 source.now.image.shape.columns }
+// The row below, from the sums of the row that the step leaves.
+fn next_row(step: &Step, sums: &mut [u32], change: &mut [u32], lines: &mut Lines, out: &mut [u16])
+    requires room { IsRow step.now.source.image sums.old }
+    requires ticks { IsColumn step.now.source.image change.old }
+    requires width { length out.old ≡ step.now.source.image.shape.columns }
+    requires sums { RowSums step.now.source.image step.now.i sums.old 0 step.now.source.image.shape.columns }
+    ensures phases { PhasesOf step.now.source.image (step.now.i + 1) out.new }
+    ensures sums { RowSums step.now.source.image (step.now.i + 1) sums.new 0 step.now.source.image.shape.columns }
 {
-    let cycle = source.image.shape.cycle as usize;
-    source
-        .image
-        .centres(i + 1, &mut lines.centres, &mut lines.row);
+    let image = &step.source.image;
+    let cycle = image.shape.cycle as usize;
+    image.centres(step.i + 1, &mut lines.centres, &mut lines.row);
     for (j, phase) in out.iter_mut().enumerate() {
-        let least = source.move_down(i, j, sums, change);
+        let least = step.move_down(j, sums, change);
         *phase = phase_of(lines.centres[j], &sums[j * cycle..(j + 1) * cycle], least);
     }
 }
@@ -111,9 +104,14 @@ fn each_row(
         let start = i * columns;
         let out = &mut output[start..start + columns];
         if i == first {
-            first_row(source, i, sums, lines, out);
+            let row = Row { source: *source, i };
+            first_row(&row, sums, lines, out);
         } else {
-            next_row(source, i - 1, sums, change, lines, out);
+            let step = Step {
+                source: *source,
+                i: i - 1,
+            };
+            next_row(&step, sums, change, lines, out);
         }
     }
 }

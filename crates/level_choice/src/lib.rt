@@ -13,6 +13,17 @@ ghost use Rattle.memory.specs.Parts.{held};
 ghost use Rattle.level_choice.specs.Walk.{Passed, Walked};
 ghost use Rattle.level_choice.specs.Count.{if_equal, count_of, places_of};
 
+// A column's sums, one for each tick, the centre of its window, and the lowest sum.
+#[derive(Clone, Copy)]
+struct Column<'a> {
+    sums: &'a [u32],
+    centre: usize,
+    least: u32,
+    ghost tick: { centre < length sums.now },
+    ghost limit: { length sums.now ≤ longest_cycle },
+    ghost lowest: { least ≡ lowest (held sums.now) (length sums.now) },
+}
+
 // The ticks with the least sum: how many they are, and the sum of their places.
 #[derive(Clone, Copy)]
 struct Tally {
@@ -30,31 +41,6 @@ fn ahead_by(cycle: usize, a: usize, e: usize) -> usize
     if a + e < cycle { a + e } else { a + e - cycle }
 }
 
-// Walks the steps from start up to end, where those before start met no tick with the least sum: the
-// first such tick, if they meet one.
-fn walk(sums: &[u32], centre: usize, least: u32, start: usize, end: usize) -> Option<usize>
-    requires tick { centre < length sums.now }
-    requires limit { length sums.now ≤ longest_cycle }
-    requires least { least ≡ lowest (held sums.now) (length sums.now) }
-    requires order { start ≤ end }
-    requires within { end ≤ length sums.now }
-    requires passed { Passed (length sums.now) centre (held sums.now) least start }
-    ensures { Walked (length sums.now) centre (held sums.now) least end result }
-{
-    let cycle = sums.len();
-    for e in start..end {
-        let front = ahead_by(cycle, centre, e);
-        if sums[front] == least {
-            return Some(front);
-        }
-        let rear = ahead_by(cycle, centre, cycle - e);
-        if sums[rear] == least {
-            return Some(rear);
-        }
-    }
-    None
-}
-
 // The number x if a sum is the least one, else 0.
 fn if_equal(sum: u32, least: u32, x: u32) -> u32
     ensures { result ≡ if_equal sum least x }
@@ -62,19 +48,52 @@ fn if_equal(sum: u32, least: u32, x: u32) -> u32
     if sum == least { x } else { 0 }
 }
 
-// Tallies the ticks with the least sum: one loop without a branch, for packed instructions.
-fn tally_of(sums: &[u32], least: u32) -> Tally
-    requires { length sums.now ≤ longest_cycle }
-    ensures count { result.count ≡ count_of (held sums.now) least (length sums.now) }
-    ensures places { result.places ≡ places_of (held sums.now) least (length sums.now) }
-{
-    let mut count = 0;
-    let mut places = 0;
-    for (q, sum) in sums.iter().enumerate() {
-        count += if_equal(*sum, least, 1);
-        places += if_equal(*sum, least, q as u32);
+impl<'a> Column<'a> {
+    // Walks the steps from start up to end, where those before start met no tick with the least sum: the
+    // first such tick, if they meet one.
+    fn walk(&self, start: usize, end: usize) -> Option<usize>
+        requires order { start ≤ end }
+        requires within { end ≤ length self.now.sums.now }
+        requires passed { Passed (length self.now.sums.now) self.now.centre (held self.now.sums.now) self.now.least start }
+        ensures { Walked (length self.now.sums.now) self.now.centre (held self.now.sums.now) self.now.least end result }
+    {
+        let Column {
+            sums,
+            centre,
+            least,
+        } = *self;
+        let cycle = sums.len();
+        for e in start..end {
+            let front = ahead_by(cycle, centre, e);
+            if sums[front] == least {
+                return Some(front);
+            }
+            let rear = ahead_by(cycle, centre, cycle - e);
+            if sums[rear] == least {
+                return Some(rear);
+            }
+        }
+        None
     }
-    Tally { count, places }
+
+    // Tallies the ticks with the least sum: one loop without a branch, for packed instructions.
+    fn tally(&self) -> Tally
+        ensures count { result.count ≡ count_of (held self.now.sums.now) self.now.least (length self.now.sums.now) }
+        ensures places { result.places ≡ places_of (held self.now.sums.now) self.now.least (length self.now.sums.now) }
+    {
+        let Column {
+            sums,
+            centre: _,
+            least,
+        } = *self;
+        let mut count = 0;
+        let mut places = 0;
+        for (q, sum) in sums.iter().enumerate() {
+            count += if_equal(*sum, least, 1);
+            places += if_equal(*sum, least, q as u32);
+        }
+        Tally { count, places }
+    }
 }
 
 // The tick that the paper chooses by the sums of a column, of which least is the lowest. A tally costs as
@@ -86,13 +105,18 @@ pub fn choose(sums: &[u32], centre: usize, least: u32) -> usize
     requires least { least ≡ lowest (held sums.now) (length sums.now) }
     ensures { Chosen (length sums.now) centre (held sums.now) (candidates (length sums.now)) result }
 {
+    let column = Column {
+        sums,
+        centre,
+        least,
+    };
     let near = sums.len() / 64 + 1;
-    if let Some(tick) = walk(sums, centre, least, 0, near) {
+    if let Some(tick) = column.walk(0, near) {
         return tick;
     }
-    let tally = tally_of(sums, least);
+    let tally = column.tally();
     if tally.count == 1 {
         return tally.places as usize;
     }
-    walk(sums, centre, least, near, sums.len()).unwrap()
+    column.walk(near, sums.len()).unwrap()
 }

@@ -4,5 +4,7 @@
 // table is zeros. Internal: the tests are the caller's.
 #![tactic(auto)]
 
-pub mod columns;
+pub mod row;
+pub mod source;
+pub mod step;
 pub mod table;

@@ -9,8 +9,8 @@ pub returns-then-tally-eq1 : goal.returns-then-tally-eq1
 returns-then-tally-eq1 c =
     let a = c.args in
     let f = held a.sums.now in
-    found_only _ a.centre c.requires.tick f a.least c.requires.least c.requires.signed c.tally_of-tally.result.places
-    (λ q h e. sym (c.tally_of-tally.ensures.places ∙ only_place f a.least _ q (sym c.tally_of-tally.ensures.count ∙ c.if-tally-eq1.true) h e))
+    found_only _ a.centre c.requires.tick f a.least c.requires.least c.requires.signed c.tally-tally.result.places
+    (λ q h e. sym (c.tally-tally.ensures.places ∙ only_place f a.least _ q (sym c.tally-tally.ensures.count ∙ c.if-tally-eq1.true) h e))
 
 pub unwrap-requires : goal.unwrap-requires
 unwrap-requires c =

@@ -11,11 +11,12 @@ use Rattle.level.proofs.rows.first_row.Goals as goal
 use Rattle.level.proofs.rows.first_row.Goals.{After-set_up}
 
 -- the column that is lent has its sums
-column : (c : After-set_up) → let image = c.args.source.now.image in let j = c.loop-j.j in
-    ColumnSums image c.args.i j (take ((j + 1) * image.shape.cycle - j * image.shape.cycle) (drop (j * image.shape.cycle) c.set_up.new.sums))
+column : (c : After-set_up) → let row = c.args.row.now in let image = row.source.image in let j = c.loop-j.j in
+    ColumnSums image row.i j (take ((j + 1) * image.shape.cycle - j * image.shape.cycle) (drop (j * image.shape.cycle) c.set_up.new.sums))
 column c =
-    let source = c.args.source.now in
-    column_lent source.image c.args.i c.loop-j.j c.set_up.new.sums c.set_up.ensures (omega arith) (omega arith)
+    let row = c.args.row.now in
+    let source = row.source in
+    column_lent source.image row.i c.loop-j.j c.set_up.new.sums c.set_up.ensures (omega arith) (omega arith)
     (omega (arith, c.set_up.auto.sums, c.loop-j.invariant.room, column_room source.ready c.loop-j.j (omega (arith, c.requires.width)))) (omega arith)
 
 pub loop-j-init : goal.loop-j-init
@@ -23,24 +24,26 @@ loop-j-init c = record { room = c.requires.room; sums = λ l a b. absurd (omega 
 
 pub slice_bounds-settled-end : goal.slice_bounds-settled-end
 slice_bounds-settled-end c =
-    omega (arith, c.set_up.auto.sums, c.loop-j.invariant.room, column_room c.args.source.now.ready c.loop-j.j (omega (arith, c.requires.width)))
+    omega (arith, c.set_up.auto.sums, c.loop-j.invariant.room, column_room c.args.row.now.source.ready c.loop-j.j (omega (arith, c.requires.width)))
 
 pub settled-requires : goal.settled-requires
 settled-requires c =
-    let source = c.args.source.now in
-    choosable source.image source.ready c.requires.image_row (omega (arith, c.requires.width)) (c.centres.ensures.holds c.loop-j.j (omega (arith, c.requires.width)))
+    let row = c.args.row.now in
+    let source = row.source in
+    choosable source.image source.ready row.inside (omega (arith, c.requires.width)) (c.centres.ensures.holds c.loop-j.j (omega (arith, c.requires.width)))
     (column (goal.at.settled-requires c).After-set_up)
 
 pub loop-j-preserved : goal.loop-j-preserved
 loop-j-preserved c =
-    let source = c.args.source.now in
+    let row = c.args.row.now in
+    let source = row.source in
     record {
       room = c.set_up.auto.sums ∙ c.loop-j.invariant.room;
       sums = c.set_up.ensures;
       phases = begun_more c.loop-j.invariant.phases _ (omega arith)
-          (chosen source.image source.ready c.requires.image_row (omega (arith, c.requires.width)) (c.centres.ensures.holds c.loop-j.j (omega (arith, c.requires.width)))
+          (chosen source.image source.ready row.inside (omega (arith, c.requires.width)) (c.centres.ensures.holds c.loop-j.j (omega (arith, c.requires.width)))
           (column (goal.at.loop-j-preserved c).After-set_up) _ c.settled.ensures);
     }
 
 pub returns-clause-phases : goal.returns-clause-phases
-returns-clause-phases c = row_all c.args.source.now.image c.args.i c.loop-j.invariant.phases c.requires.width (omega (arith, c.requires.width))
+returns-clause-phases c = let row = c.args.row.now in row_all row.source.image row.i c.loop-j.invariant.phases c.requires.width (omega (arith, c.requires.width))

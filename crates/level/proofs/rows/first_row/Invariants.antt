@@ -9,9 +9,9 @@ use Rattle.level_sums.specs.Sums.{RowSums}
 use Rattle.level.proofs.rows.first_row.Given as goal
 
 abbrev pub invariant-loop-j : goal.invariant-loop-j
-invariant-loop-j l = let image = l.source.image in
+invariant-loop-j l = let image = l.row.source.image in
     record {
       room : length l.sums ≡ image.shape.columns * image.shape.cycle;
-      sums : RowSums image l.i l.sums 0 l.j;
-      phases : Begun l.initial.out l.out l.j (phase image.shape image.readings.now l.i);
+      sums : RowSums image l.row.i l.sums 0 l.j;
+      phases : Begun l.initial.out l.out l.j (phase image.shape image.readings.now l.row.i);
     }

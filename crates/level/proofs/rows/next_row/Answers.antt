@@ -11,18 +11,20 @@ use Rattle.level.proofs.rows.next_row.Goals as goal
 use Rattle.level.proofs.rows.next_row.Goals.{After-move_down-least}
 
 -- the column that is lent has its sums
-column : (c : After-move_down-least) → let image = c.args.source.now.image in let j = c.loop-j.j in
-    ColumnSums image (c.args.i + 1) j (take ((j + 1) * image.shape.cycle - j * image.shape.cycle) (drop (j * image.shape.cycle) c.move_down-least.new.sums))
+column : (c : After-move_down-least) → let step = c.args.step.now in let image = step.source.image in let j = c.loop-j.j in
+    ColumnSums image (step.i + 1) j (take ((j + 1) * image.shape.cycle - j * image.shape.cycle) (drop (j * image.shape.cycle) c.move_down-least.new.sums))
 column c =
-    let source = c.args.source.now in
+    let step = c.args.step.now in
+    let source = step.source in
     let after = c.move_down-least.ensures.after in
-    column_lent source.image (c.args.i + 1) c.loop-j.j c.move_down-least.new.sums after.done (omega arith) (omega arith)
+    column_lent source.image (step.i + 1) c.loop-j.j c.move_down-least.new.sums after.done (omega arith) (omega arith)
     (omega (arith, after.room, column_room source.ready c.loop-j.j (omega (arith, c.requires.width)))) (omega arith)
 
 pub phase_of-requires-clause-choosable : goal.phase_of-requires-clause-choosable
 phase_of-requires-clause-choosable c =
-    let source = c.args.source.now in
-    choosable source.image source.ready c.requires.next (omega (arith, c.requires.width)) (c.centres.ensures.holds c.loop-j.j (omega (arith, c.requires.width)))
+    let step = c.args.step.now in
+    let source = step.source in
+    choosable source.image source.ready step.next (omega (arith, c.requires.width)) (c.centres.ensures.holds c.loop-j.j (omega (arith, c.requires.width)))
     (column (goal.at.phase_of-requires-clause-choosable c).After-move_down-least)
 
 pub phase_of-requires-clause-lowest : goal.phase_of-requires-clause-lowest
@@ -30,14 +32,16 @@ phase_of-requires-clause-lowest c = ticks_least (column (goal.at.phase_of-requir
 
 pub loop-j-preserved : goal.loop-j-preserved
 loop-j-preserved c =
-    let source = c.args.source.now in
+    let step = c.args.step.now in
+    let source = step.source in
     record {
       down = c.move_down-least.ensures.after;
       phases = begun_more c.loop-j.invariant.phases _ (omega arith)
-          (chosen source.image source.ready c.requires.next (omega (arith, c.requires.width)) (c.centres.ensures.holds c.loop-j.j (omega (arith, c.requires.width)))
+          (chosen source.image source.ready step.next (omega (arith, c.requires.width)) (c.centres.ensures.holds c.loop-j.j (omega (arith, c.requires.width)))
           (column (goal.at.loop-j-preserved c).After-move_down-least) _ c.phase_of.ensures);
     }
 
 pub returns-clause-phases : goal.returns-clause-phases
 returns-clause-phases c =
-    row_all c.args.source.now.image (c.args.i + 1) c.loop-j.invariant.phases c.requires.width (omega (arith, c.requires.width))
+    let step = c.args.step.now in
+    row_all step.source.image (step.i + 1) c.loop-j.invariant.phases c.requires.width (omega (arith, c.requires.width))

@@ -7,5 +7,5 @@ use Rattle.level_sums.specs.Sums.{Descent}
 use Rattle.level.proofs.rows.next_row.Given as goal
 
 abbrev pub invariant-loop-j : goal.invariant-loop-j
-invariant-loop-j l = let image = l.source.image in
-    record { down : Descent image l.i l.j l.sums l.change; phases : Begun l.initial.out l.out l.j (phase image.shape image.readings.now (l.i + 1)) }
+invariant-loop-j l = let step = l.step in let image = step.source.image in
+    record { down : Descent image step.i l.j l.sums l.change; phases : Begun l.initial.out l.out l.j (phase image.shape image.readings.now (step.i + 1)) }

@@ -1,0 +1,77 @@
+// The sums of a row's columns moved down to the next row, by the differences between the two.
+ghost use Rattle.std.specs.Prelude.{◌≡◌, ◌+◌, ◌<◌};
+ghost use Rattle.level_sums.specs.Sums.{IsColumn, ColumnSums, RowChange, Descent, lowest_sum};
+
+use crate::source::Source;
+use memory::{add, lowest_of, swap, turn};
+
+// The step from row i to row i + 1.
+#[derive(Clone, Copy)]
+pub struct Step<'a> {
+    pub source: Source<'a>,
+    pub i: usize,
+    pub ghost next: { i + 1 < source.image.shape.rows },
+}
+
+impl<'a> Step<'a> {
+    // The differences between row i + 1 and row i, at column 0.
+    fn first_change(&self, change: &mut [u32])
+        requires { IsColumn self.now.source.image change.old }
+        ensures { RowChange self.now.source.image self.now.i 0 change.new }
+    {
+        let below = self.i + self.source.image.shape.mask_rows as usize;
+        change.fill(0);
+        for l in 0..self.source.image.shape.mask_columns as usize {
+            let entering = self.source.part_at(below, l);
+            let leaving = self.source.part_at(self.i, l);
+            swap(change, entering, leaving);
+        }
+    }
+
+    // The sums of column 0 of row i + 1, from those of row i. The lowest of them.
+    fn start_row(&self, sums: &mut [u32], change: &mut [u32]) -> u32
+        requires ticks { IsColumn self.now.source.image change.old }
+        requires column { ColumnSums self.now.source.image self.now.i 0 sums.old }
+        ensures differences { RowChange self.now.source.image self.now.i 0 change.new }
+        ensures column { ColumnSums self.now.source.image (self.now.i + 1) 0 sums.new }
+        ensures lowest { result ≡ lowest_sum self.now.source.image (self.now.i + 1) 0 }
+    {
+        self.first_change(change);
+        add(sums, change);
+        lowest_of(sums)
+    }
+
+    // The sums of column j + 1 of row i + 1, from those of row i and the differences at column j. The lowest of them.
+    fn advance(&self, j: usize, sums: &mut [u32], change: &mut [u32]) -> u32
+        requires next_column { j + 1 < self.now.source.image.shape.columns }
+        requires differences { RowChange self.now.source.image self.now.i j change.old }
+        requires column { ColumnSums self.now.source.image self.now.i (j + 1) sums.old }
+        ensures differences { RowChange self.now.source.image self.now.i (j + 1) change.new }
+        ensures column { ColumnSums self.now.source.image (self.now.i + 1) (j + 1) sums.new }
+        ensures lowest { result ≡ lowest_sum self.now.source.image (self.now.i + 1) (j + 1) }
+    {
+        let below = self.i + self.source.image.shape.mask_rows as usize;
+        let ahead = j + self.source.image.shape.mask_columns as usize;
+        let first_in = self.source.part_at(below, ahead);
+        let second_in = self.source.part_at(self.i, j);
+        let first_out = self.source.part_at(below, j);
+        let second_out = self.source.part_at(self.i, ahead);
+        turn(sums, change, first_in, second_in, first_out, second_out)
+    }
+
+    // The sums of column j of row i + 1, from those of row i. The lowest of them.
+    pub fn move_down(&self, j: usize, sums: &mut [u32], change: &mut [u32]) -> u32
+        requires image_column { j < self.now.source.image.shape.columns }
+        requires before { Descent self.now.source.image self.now.i j sums.old change.old }
+        ensures after { Descent self.now.source.image self.now.i (j + 1) sums.new change.new }
+        ensures lowest { result ≡ lowest_sum self.now.source.image (self.now.i + 1) j }
+    {
+        let cycle = self.source.image.shape.cycle as usize;
+        let column = &mut sums[j * cycle..(j + 1) * cycle];
+        if j == 0 {
+            self.start_row(column, change)
+        } else {
+            self.advance(j - 1, column, change)
+        }
+    }
+}
