@@ -59,7 +59,3 @@ module _ {s : Shape} {first : ℕ → ℕ} {begun gain loss : Gain} where
             fronts = rw next (fronts_more s gain loss begun (rw last at x.fronts) d (λ j g. e j g ∙ front (y j) j g (from j g)));
             outside = rw next (outside_lower x.outside d (rw last (omega (arith, row))) (omega (arith, add-mul m 1 s.columns)));
           }
-
-    -- after the last turn
-    pub sweep_all : s.mask_columns ≤ m → Fronts s w begun gain loss 0
-    sweep_all g = let e : s.mask_columns - m ≡ 0 = omega (arith, x.within) in rw e at x.fronts

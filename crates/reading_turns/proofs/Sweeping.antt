@@ -71,10 +71,6 @@ module _ {s : Shape} {image : List ℕ} {i a : ℕ} {gain loss : Gain} where
       let inside : j < k = omega (arith, length-take k (drop base w), g) in
       part-reads w base k j inside ∙ rw e (r.swept.done l h j (omega arith))
 
-  -- so have all planes in the end
-  pub sweeping_last : {w changes : List ℕ} {n : ℕ} → Sweeping s image i a gain loss w changes n → s.mask_columns ≤ n → PlaneSums s image i a w
-  sweeping_last r h = record { holds = λ m g. r.swept.done m (omega (arith, r.within)) }
-
 -- After the sweep ahead: built planes began at the marks of their line, and carried ones at the sums of the row before.
 module _ {s : Shape} {image : List ℕ} (ready : Ready longest_cycle s image) where
   some : 0 < s.mask_columns

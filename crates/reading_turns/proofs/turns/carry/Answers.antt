@@ -2,7 +2,7 @@ use Prim.Native.Nat.{◌+◌, ◌-◌, ◌*◌}
 use mathlib.Core.Path.{◌≡◌, refl, ◌∙◌}
 use native.Mathlib.Omega.{arith}
 use Rattle.reading_choice.proofs.RowLaws.{row_last}
-use Rattle.reading_turns.proofs.Sweeping.{carried_first, sweeping_more, sweeping_plane, sweeping_last}
+use Rattle.reading_turns.proofs.Sweeping.{carried_first, sweeping_more, sweeping_plane}
 use Rattle.reading_turns.proofs.turns.carry.Goals as goal
 
 pub invariant_of-sweep : goal.invariant_of-sweep
@@ -61,8 +61,8 @@ loop-l-preserved c =
       weighed = c.weigh-in-loop-l.ensures;
     }
 
-pub returns : goal.returns
-returns c =
+pub returns-clause-weighed_next : goal.returns-clause-weighed_next
+returns-clause-weighed_next c =
     let inv = c.loop-l.invariant in
     let all : c.loop-l.l ≡ c.args.mask_row.now.row.image.shape.mask_columns = omega (arith, inv.sweeping.within, c.loop-l-test.false) in
-    record { sums = sweeping_last inv.sweeping (omega arith); weighed_next = row_last (rw all at inv.weighed) }
+    row_last (rw all at inv.weighed)

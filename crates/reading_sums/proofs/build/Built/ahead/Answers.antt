@@ -8,7 +8,7 @@ use Rattle.memory.proofs.Memory.{changed_part, part-reads}
 use Rattle.reading_lines.proofs.Marks.{mark-small}
 use Rattle.reading_planes.proofs.Sums.{plane_within, line_room}
 use Rattle.reading_planes.proofs.Sweeps.{behind-none}
-use Rattle.reading_sums.proofs.SweepAhead.{sweep_none, sweep_more, sweep_all}
+use Rattle.reading_sums.proofs.SweepAhead.{sweep_none, sweep_more}
 use Rattle.reading_sums.proofs.Turns.{cleared, counted-part}
 use Rattle.reading_sums.proofs.build.Built.ahead.Goals as goal
 
@@ -45,9 +45,6 @@ loop-m-preserved c =
           (λ j h. omega arith);
       long = counted.len ∙ long;
     }
-
-pub returns-clause-fronts : goal.returns-clause-fronts
-returns-clause-fronts c = sweep_all c.loop-m.invariant.sweep (omega (arith, c.loop-m-test.false))
 
 pub returns-clause-behind : goal.returns-clause-behind
 returns-clause-behind c =

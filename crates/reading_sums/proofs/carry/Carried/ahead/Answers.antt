@@ -8,7 +8,7 @@ use Rattle.reading_planes.specs.Planes.{held}
 use Rattle.reading_planes.proofs.Sums.{plane_within, sizes, line_room}
 use Rattle.reading_planes.proofs.Sweeps.{behind-none}
 use Rattle.reading_sums.proofs.Measured.{carried_long, entering_measurable, leaving_measurable}
-use Rattle.reading_sums.proofs.SweepAhead.{sweep_none, sweep_held, sweep_more, sweep_all}
+use Rattle.reading_sums.proofs.SweepAhead.{sweep_none, sweep_held, sweep_more}
 use Rattle.reading_sums.proofs.Turns.{cleared, steps-read, moved-part, counted-steps}
 use Rattle.reading_sums.proofs.carry.Carried.ahead.Goals as goal
 
@@ -62,9 +62,6 @@ loop-m-preserved c =
           (λ j h. omega arith);
       long = moved.len ∙ long;
     }
-
-pub returns-clause-fronts : goal.returns-clause-fronts
-returns-clause-fronts c = sweep_all c.loop-m.invariant.sweep (omega (arith, c.loop-m-test.false))
 
 pub returns-clause-behind : goal.returns-clause-behind
 returns-clause-behind c =
