@@ -9,6 +9,7 @@ use Rattle.lists.specs.Members.{In}
 use Rattle.lists.proofs.Members.{in_some}
 use Rattle.lists.proofs.Tabulate.{length-tabulate, get_or-tabulate}
 use Rattle.refusal.specs.Limits.{level_cycle}
+use Rattle.shape.proofs.Accepted.{shape_clear}
 use Rattle.cycle.specs.Silence.{silent, heard}
 use Rattle.median.proofs.Sum.{shares_sum}
 use Rattle.median.proofs.Choice.{chosen_by_sums}
@@ -21,7 +22,6 @@ use Rattle.window.proofs.Phase.{phase-at, phase-chosen, phase-none}
 use Rattle.window.proofs.Window.{cycle_heard, centre_at_case, centre_at_reading}
 use Rattle.lines.specs.declared.image.Image.{Image}
 use Rattle.level_sums.specs.Sums.{ColumnSums}
-use Rattle.level_sums.proofs.Room.{accepted}
 use Rattle.level_sums.proofs.ColumnLaws.{window-signed}
 use Rattle.level.specs.Rows.{Choosable, ChosenBy, PhasesOf}
 
@@ -31,7 +31,7 @@ module _ (image : Image) (ready : Ready level_cycle image.shape image.readings.n
   -- the phase may be chosen
   pub choosable : Choosable centre sums
   choosable = record {
-    fits = omega (arith, t.len, accepted ready);
+    fits = omega (arith, t.len, shape_clear level_cycle image.shape ready.shape);
     reading = rw (t.len, mid) (centre_at_reading ready (omega arith) i j hi hj);
     signed = λ q h.
         let tick : q < image.shape.cycle = omega (arith, t.len) in

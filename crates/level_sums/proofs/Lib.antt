@@ -1,5 +1,4 @@
 pub mod TableLaws
-pub mod Room
 pub mod Running
 pub mod ColumnLaws
 pub mod Down

@@ -1,9 +1,9 @@
 use Prim.Native.Nat.{◌+◌, ◌-◌, ◌*◌}
 use lib.ListN.{take, drop}
 use native.Mathlib.Omega.{arith}
+use Rattle.lists.proofs.Parts.{part_end}
 use Rattle.memory.proofs.Memory.{begun_more}
 use Rattle.level_sums.specs.Sums.{ColumnSums}
-use Rattle.level_sums.proofs.Room.{column_room}
 use Rattle.level_sums.proofs.RowSums.{column_lent}
 use Rattle.level_sums.proofs.Running.{ticks_least}
 use Rattle.level.proofs.RowLaws.{choosable, chosen, row_all}
@@ -18,7 +18,7 @@ column c =
     let source = step.source in
     let after = c.move_down-least.ensures.after in
     column_lent source.image (step.i + 1) c.loop-j.j c.move_down-least.new.sums after.done (omega arith) (omega arith)
-    (omega (arith, after.room, column_room source.ready c.loop-j.j (omega (arith, c.requires.width)))) (omega arith)
+    (omega (arith, after.room, part_end c.loop-j.j source.image.shape.columns source.image.shape.cycle (omega (arith, c.requires.width)))) (omega arith)
 
 pub phase_of-requires-clause-choosable : goal.phase_of-requires-clause-choosable
 phase_of-requires-clause-choosable c =
