@@ -3,7 +3,7 @@ use mathlib.Core.Path.{◌∙◌}
 use lib.ListN.{take, drop}
 use native.Mathlib.Omega.{arith}
 use Rattle.lists.proofs.Parts.{part_end}
-use Rattle.memory.proofs.Memory.{begun_none, begun_more}
+use Rattle.memory.proofs.Memory.{begun_more}
 use Rattle.level_sums.specs.Sums.{ColumnSums}
 use Rattle.level_sums.proofs.RowSums.{column_lent}
 use Rattle.level.proofs.RowLaws.{choosable, chosen, row_all}
@@ -18,14 +18,6 @@ column c =
     let source = row.source in
     column_lent source.image row.i c.loop-j.j c.set_up.new.sums c.set_up.ensures (omega arith) (omega arith)
     (omega (arith, c.set_up.auto.sums, c.loop-j.invariant.room, part_end c.loop-j.j source.image.shape.columns source.image.shape.cycle (omega (arith, c.requires.width)))) (omega arith)
-
-pub loop-j-init : goal.loop-j-init
-loop-j-init c = record { room = c.requires.room; sums = λ l a b. absurd (omega arith); phases = begun_none }
-
-pub slice_bounds-settled-end : goal.slice_bounds-settled-end
-slice_bounds-settled-end c =
-    let shape = c.args.row.now.source.image.shape in
-    omega (arith, c.set_up.auto.sums, c.loop-j.invariant.room, part_end c.loop-j.j shape.columns shape.cycle (omega (arith, c.requires.width)))
 
 pub settled-requires : goal.settled-requires
 settled-requires c =

@@ -1,6 +1,5 @@
 -- `level_sums::step::Step::start_row` meets its contract. Assumes nothing.
 use Prim.Native.Nat.{◌+◌}
-use native.Mathlib.Omega.{arith}
 use mathlib.Core.Path.{◌∙◌}
 use Rattle.refusal.specs.Limits.{level_cycle}
 use Rattle.shape.proofs.Accepted.{shape_clear}
@@ -17,9 +16,6 @@ column c =
     let source = step.source in
     down_added source.image source.ready step.i 0 step.next (shape_clear level_cycle source.image.shape source.ready.shape).columns_some c.requires.column
     c.first_change.ensures c.add.ensures c.add.auto.sums
-
-pub add-requires : goal.add-requires
-add-requires c = omega (arith, c.first_change.ensures.len, c.requires.column.len)
 
 pub lowest_of-requires : goal.lowest_of-requires
 lowest_of-requires c =
