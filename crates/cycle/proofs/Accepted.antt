@@ -1,13 +1,14 @@
 -- What it says of the arguments that the tests of a call are clear. Assumes nothing.
-use Rattle.std.proofs.Common.{◌≡◌, ℕ, ◌<◌, ◌≤◌, true, List, [], ◌∷◌, length, get_or, arith, ltb-false, ltb-true, le-ltb, ne_eqb}
+use Rattle.std.proofs.Common.{◌≡◌, ℕ, ◌<◌, ◌≤◌, Bool, true, false, not, sym, refl, ap, ◌∙◌, List, [], ◌∷◌, length, get_or, arith, ltb-false, ltb-true, le-ltb, ne_eqb}
 use borrow.Author.Tests.{eqb-false, not-false}
 use Rattle.lists.specs.First.{first_bad}
 use Rattle.lists.proofs.First.{before-first}
 use Rattle.refusal.specs.Limits.{longest_cycle, most_columns}
-use Rattle.refusal.specs.Outcome.{Clear}
-use Rattle.refusal.proofs.Outcome.{clear_split}
+use Rattle.refusal.specs.Outcome.{Clear, rule}
+use Rattle.refusal.specs.Outcome.Outcome.{accepted, refused}
+use Rattle.refusal.proofs.Outcome.{clear_split, told, passed_clear, not_refused, clear_accepted}
 use Rattle.cycle.specs.Silence.{is_reading}
-use Rattle.cycle.specs.Calls.{pair_rules, tick_rule, slot_rules, row_rules}
+use Rattle.cycle.specs.Calls.{pair_rules, tick_rule, slot_rules, heard_rule, row_rules}
 
 pub record Pair (c a b : ℕ) : Type 0 where
   pub cycle_some : 0 < c
@@ -61,3 +62,15 @@ clear_drift c row r = (
 pub reading-good : (c : ℕ) (readings : List ℕ) (k : ℕ) → length readings ≤ first_bad (is_reading c) readings → k < length readings
     → is_reading c (get_or readings k 0) ≡ true
 reading-good c readings k good h = before-first (is_reading c) 0 readings k (omega arith)
+
+-- What the test of one reading says of it: it is one, or it is none, and then its place is told.
+module _ (c x place : ℕ) where
+  pub passed_reading : {u : Unit {0}} → accepted u ≡ told (heard_rule c x place ∷ []) → is_reading c x ≡ true
+  passed_reading said = not-false _ (passed_clear (heard_rule c x place ∷ []) said).0
+
+  pub refused_reading : {n k : ℕ} → refused n k ≡ told (heard_rule c x place ∷ []) → (is_reading c x ≡ false) × (refused n k ≡ told (rule true 9 place ∷ []))
+  refused_reading {n} {k} said = go (is_reading c x) refl
+    where
+      go : (b : Bool) → is_reading c x ≡ b → (is_reading c x ≡ false) × (refused n k ≡ told (rule true 9 place ∷ []))
+      go true e = not_refused (sym (said ∙ clear_accepted tt (heard_rule c x place ∷ []) (ap not e, tt)))
+      go false e = (e, said ∙ ap (λ (b : Bool). told (rule (not b) 9 place ∷ [])) e)

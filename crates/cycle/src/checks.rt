@@ -1,7 +1,7 @@
 // The tests of the calls, in groups that calls share: each answers the first refusal that is due.
 ghost use Rattle.std.specs.Prelude.{◌≡◌, ℕ, ◌+◌, ◌%◌, ◌^◌, ◌<◌, ◌≤◌, [], ◌∷◌, length, slice_index};
 ghost use Rattle.refusal.specs.Outcome.{first_due, outcome};
-ghost use Rattle.cycle.specs.Calls.{cycle_rules, tick_rule, pair_rules, slot_rules, reading_rule, row_rules};
+ghost use Rattle.cycle.specs.Calls.{cycle_rules, tick_rule, pair_rules, slot_rules, heard_rule, reading_rule, row_rules};
 
 use refusal::limits::{LONGEST_CYCLE, MOST_COLUMNS};
 use refusal::{Refusal, check_range, refuse_if};
@@ -38,14 +38,20 @@ pub fn highest(readings: &[u16], more: u16) -> u16
     top
 }
 
+// Test 9 on a reading of an image, a row, a record or a live window, which has a place.
+#[tactic(auto, unfolding(crate::specs::Silence::is_reading, refusal::specs::Outcome::first_due))]
+pub fn check_reading(cycle: u32, x: u16, place: usize) -> Result<(), Refusal>
+    ensures { outcome result ≡ first_due (heard_rule cycle x place ∷ []) tt }
+{
+    refuse_if(cycle < next_of(x) as u32, Refusal::Reading(place))
+}
+
 // Test 9 on a whole image or row, one entry after the other.
 fn check_each(cycle: u32, readings: &[u16]) -> Result<(), Refusal>
     ensures { outcome result ≡ first_due (reading_rule cycle readings.now ∷ []) tt }
 {
     for (index, x) in readings.iter().enumerate() {
-        if cycle < next_of(*x) as u32 {
-            return Err(Refusal::Reading(index));
-        }
+        check_reading(cycle, *x, index)?;
     }
     Ok(())
 }

@@ -11,7 +11,7 @@ ghost use Rattle.std.specs.Prelude.{◌≡◌};
 ghost use Rattle.refusal.specs.Outcome.{outcome};
 ghost use Rattle.cycle.specs.Calls.{distance_due, step_due, slot_due, drift_due};
 
-pub use checks::{check_cycle, check_readings, highest, next_of};
+pub use checks::{check_cycle, check_reading, check_readings, highest, next_of};
 use checks::{check_pair, check_row, check_slot};
 use refusal::Refusal;
 pub use ticks::{SILENT, apart, apart_by_formula};

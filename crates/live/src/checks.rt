@@ -1,11 +1,11 @@
 // The tests of the live window's calls, each the first refusal that is due.
-ghost use Rattle.std.specs.Prelude.{◌≡◌, [], ◌∷◌};
+ghost use Rattle.std.specs.Prelude.{◌≡◌};
 ghost use Rattle.refusal.specs.Outcome.{first_due, outcome};
-ghost use Rattle.live.specs.Calls.{window_rules, newest_rule, push_rules};
+ghost use Rattle.live.specs.Calls.{window_rules, push_rules};
 
-use cycle::{check_cycle, next_of};
+use cycle::{check_cycle, check_reading};
+use refusal::Refusal;
 use refusal::limits::{LIVE_CYCLE, LIVE_LENGTH};
-use refusal::{Refusal, refuse_if};
 use shape::check_side;
 
 // Tests 1 and 3, of a window.
@@ -17,19 +17,11 @@ pub fn check_window(cycle: u32, length: u32) -> Result<(), Refusal>
     check_side(length, LIVE_LENGTH)
 }
 
-// Test 9, of a reading to push.
-#[tactic(auto, unfolding(cycle::specs::Silence::is_reading, refusal::specs::Outcome::first_due))]
-fn check_newest(cycle: u32, reading: u16) -> Result<(), Refusal>
-    ensures { outcome result ≡ first_due (newest_rule cycle reading ∷ []) tt }
-{
-    refuse_if(cycle < next_of(reading) as u32, Refusal::Reading(0))
-}
-
 // The tests of a push, on the window's own numbers and on the reading.
 #[tactic(auto, unfolding(refusal::specs::Outcome::first_due))]
 pub fn check_push(cycle: u32, length: u32, reading: u16) -> Result<(), Refusal>
     ensures { outcome result ≡ first_due (push_rules cycle length reading) tt }
 {
     check_window(cycle, length)?;
-    check_newest(cycle, reading)
+    check_reading(cycle, reading, 0)
 }

@@ -27,15 +27,16 @@ pub fn fresh_in(
     Ok(())
 }
 
-// A phase as an answer.
-#[tactic(auto, unfolding(crate::specs::Window::result_of, cycle::specs::Silence::is_heard))]
-fn live_of(phase: u16) -> Live
-    ensures { result ≡ result_of phase }
-{
-    if phase == SILENT {
-        Live::Silent
-    } else {
-        Live::Phase(phase)
+impl From<u16> for Live {
+    ghost from_gives = { λ phase told. told ≡ result_of phase };
+
+    #[tactic(auto, unfolding(crate::specs::Window::result_of, cycle::specs::Silence::is_heard))]
+    fn from(phase: u16) -> Live {
+        if phase == SILENT {
+            Live::Silent
+        } else {
+            Live::Phase(phase)
+        }
     }
 }
 
@@ -47,7 +48,7 @@ fn told(cycle: u32, filled: u32, readings: &[u16], sums: &[u16]) -> Live
     if (filled as usize) < readings.len() {
         return Live::Filling;
     }
-    live_of(phase_in(cycle, readings, sums))
+    phase_in(cycle, readings, sums).into()
 }
 
 // Pushes a reading into a window's arrays.

@@ -10,7 +10,7 @@ ghost use Rattle.record_read.specs.Stages.{Headed};
 
 use crate::field::check_field;
 use crate::head::mask_due;
-use cycle::next_of;
+use cycle::check_reading;
 use record_format::layout::{HEAD_LENGTH, MASK_ROWS_AT, NUMBER_LENGTH};
 use record_format::{Tag, number_at};
 use refusal::{Refusal, refuse_if};
@@ -58,9 +58,7 @@ impl Record<'_> {
         let columns = self.columns();
         for k in 0..columns {
             let x = number_at(self.bytes, at + NUMBER_LENGTH * k);
-            if self.shape.cycle < next_of(x) as u32 {
-                return Err(Refusal::Reading(i * columns + k));
-            }
+            check_reading(self.shape.cycle, x, i * columns + k)?;
         }
         Ok(())
     }

@@ -13,14 +13,9 @@ pub fn check_field(bytes: &[u8], at: usize, tag: Tag, due: usize) -> Result<(), 
     ensures { outcome result ≡ first_due (field_rules bytes.now at tag due) tt }
 {
     let left = bytes.len().saturating_sub(at);
-    if left < HEAD_LENGTH {
-        return Err(Refusal::Cut(at));
-    }
-    if bytes[at] != tag.byte() {
-        return Err(Refusal::Tag(at));
-    }
-    if number_at(bytes, at + TAG_LENGTH) as usize != due {
-        return Err(Refusal::Length(at));
-    }
+    refuse_if(left < HEAD_LENGTH, Refusal::Cut(at))?;
+    refuse_if(bytes[at] != tag.byte(), Refusal::Tag(at))?;
+    let said = number_at(bytes, at + TAG_LENGTH) as usize;
+    refuse_if(said != due, Refusal::Length(at))?;
     refuse_if(left - HEAD_LENGTH < due, Refusal::Cut(at))
 }

@@ -14,8 +14,8 @@ use record_format::layout::{
     MASK_LENGTH_AT, MASK_ROWS_AT, NUMBER_LENGTH, ROWS_AT, SIZE_FIELD_AT,
 };
 use record_format::{Tag, number_at};
-use refusal::Refusal;
 use refusal::limits::LONGEST_CYCLE;
+use refusal::{Refusal, refuse_if};
 use shape::{Shape, check_buffer, check_size};
 
 // The mask that an empty mask field means.
@@ -59,9 +59,8 @@ pub fn mask_due(bytes: &[u8]) -> usize
 fn check_mask_field(bytes: &[u8]) -> Result<(), Refusal>
     ensures { outcome result ≡ first_due (field_rules bytes.now mask_field_at tags.Mask (mask_due bytes.now)) tt }
 {
-    if bytes.len().saturating_sub(MASK_FIELD_AT) < HEAD_LENGTH {
-        return Err(Refusal::Cut(MASK_FIELD_AT));
-    }
+    let left = bytes.len().saturating_sub(MASK_FIELD_AT);
+    refuse_if(left < HEAD_LENGTH, Refusal::Cut(MASK_FIELD_AT))?;
     check_field(bytes, MASK_FIELD_AT, Tag::Mask, mask_due(bytes))
 }
 

@@ -1,10 +1,11 @@
-use Rattle.std.proofs.Common.{◌+◌, ◌*◌, ◌≡◌, ◌<◌, length, get_or, sym, ap, ◌∙◌, arith, lt-ltb, le-ltb}
+use Rattle.std.proofs.Common.{ℕ, ◌+◌, ◌*◌, ◌≡◌, ◌<◌, length, get_or, [], ◌∷◌, true, sym, ap, ◌∙◌, rules, arith, lt-ltb, le-ltb}
 use Rattle.lists.specs.First.{first_bad}
 use Rattle.lists.proofs.First.{first_here, first_later, first-none}
-use Rattle.refusal.specs.Outcome.{first_due}
+use Rattle.refusal.specs.Outcome.{first_due, rule}
 use Rattle.refusal.specs.Outcome.Outcome.{refused}
+use Rattle.refusal.proofs.Outcome.{handed_alone}
 use Rattle.cycle.specs.Silence.{is_reading}
-use Rattle.cycle.proofs.SilenceLaws.{next-reading, next-none}
+use Rattle.cycle.proofs.Accepted.{passed_reading, refused_reading}
 use Rattle.shape.specs.declared.Shape.{Shape}
 use Rattle.record_format.specs.Layout.{body_of}
 use Rattle.record_format.specs.Fields.{number_at}
@@ -26,20 +27,20 @@ is_read c =
     get_or-numbers_at b (body_of (row_at b c.args.i)) (columns_in b) c.loop-k.k (omega (arith, c.columns-columns.ensures))
     ∙ ap (number_at b) (omega (arith, c.row_at-at.ensures)) ∙ sym c.number_at-x.ensures
 
-pub returns-then-self-next_of : goal.returns-then-self-next_of
+pub returns-in_err-check_reading : goal.returns-in_err-check_reading
 unfolding first_due
-returns-then-self-next_of c =
+returns-in_err-check_reading c =
     let b = c.args.self.now.bytes.now in
     let xs = row_in b c.args.i in
     let good = is_reading (cycle_in b) in
     let k = c.loop-k.k in
     let within : k < length xs = omega (arith, length-row_in b c.args.i, c.columns-columns.ensures) in
-    let above : cycle_in b < c.next_of.result = omega (arith, cycle_is (goal.at.returns-then-self-next_of c).Start) in
-    let bad = next-none (cycle_in b) _ c.number_at-x.type_inv c.next_of.ensures above in
-    let here = first_here good 0 xs k within (rw (is_read (goal.at.returns-then-self-next_of c).After-number_at-x) bad) in
+    let bad = refused_reading c.args.self.now.shape.cycle _ (c.args.i * c.columns-columns.result + k) c.in_err-check_reading.ensures in
+    let none = ap (λ (n : ℕ). is_reading n c.number_at-x.result) (sym (cycle_is (goal.at.returns-in_err-check_reading c).Start)) ∙ bad.0 in
+    let here = first_here good 0 xs k within (rw (is_read (goal.at.returns-in_err-check_reading c).After-number_at-x) none) in
     let first : first_bad good xs ≡ k = omega (arith, c.loop-k.invariant, here) in
     let place : c.args.i * c.columns-columns.result + k ≡ c.args.i * columns_in b + k = cc in
-    rw (first, lt-ltb k (length xs) within) (ap (refused 9) place)
+    handed_alone (rule true 9 (c.args.i * c.columns-columns.result + k) ∷ []) tt bad.1 (search rules) ∙ rw (first, lt-ltb k (length xs) within) (ap (refused 9) place)
 
 pub loop-k-preserved : goal.loop-k-preserved
 loop-k-preserved c =
@@ -47,7 +48,8 @@ loop-k-preserved c =
     let xs = row_in b c.args.i in
     let k = c.loop-k.k in
     let within : k < length xs = omega (arith, length-row_in b c.args.i, c.columns-columns.ensures) in
-    let good = next-reading (cycle_in b) _ c.number_at-x.type_inv c.next_of.ensures (omega (arith, cycle_is (goal.at.loop-k-preserved c).Start)) in
+    let passed = passed_reading c.args.self.now.shape.cycle _ _ c.in_ok-check_reading.ensures in
+    let good = ap (λ (n : ℕ). is_reading n c.number_at-x.result) (sym (cycle_is (goal.at.loop-k-preserved c).Start)) ∙ passed in
     omega (
       arith,
       c.loop-k.invariant,
