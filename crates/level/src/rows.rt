@@ -82,7 +82,8 @@ fn next_row(step: &Step, sums: &mut [u32], change: &mut [u32], lines: &mut Lines
     }
 }
 
-// The rows of a range of the output, each lent in its turn.
+// The rows of a range of the output, each lent in its turn. The sums and the differences are lent one beside the other:
+// of a struct of them no two could be lent to a call at once.
 fn each_row(
     source: &Source,
     rows: Range<usize>,

@@ -31,7 +31,7 @@ struct Tally {
     places: u32,
 }
 
-// The tick that lies e ahead of a.
+// The tick that lies e ahead of a, as an index; `tick_of` of reading_choice has it in 32 bits, for packed instructions.
 fn ahead_by(cycle: usize, a: usize, e: usize) -> usize
     requires tick { a < cycle }
     requires step { e ≤ cycle }
@@ -41,7 +41,7 @@ fn ahead_by(cycle: usize, a: usize, e: usize) -> usize
     if a + e < cycle { a + e } else { a + e - cycle }
 }
 
-// The number x if a sum is the least one, else 0.
+// The number x if a sum is the least one, else 0: one `if` to a function, so that the loop packs.
 fn if_equal(sum: u32, least: u32, x: u32) -> u32
     ensures { result ≡ if_equal sum least x }
 {
@@ -50,7 +50,7 @@ fn if_equal(sum: u32, least: u32, x: u32) -> u32
 
 impl<'a> Column<'a> {
     // Walks the steps from start up to end, where those before start met no tick with the least sum: the
-    // first such tick, if they meet one.
+    // first such tick, if they meet one. From a start, since the walk goes on where it stopped before the tally.
     fn walk(&self, start: usize, end: usize) -> Option<usize>
         requires order { start ≤ end }
         requires within { end ≤ length self.now.sums.now }

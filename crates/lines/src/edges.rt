@@ -4,7 +4,8 @@ ghost use Rattle.memory.specs.Memory.{Changed};
 ghost use Rattle.lines.specs.Lines.{edged};
 
 // Puts the mirrored edges, `reach` numbers each, beside a row of n numbers that stands at place `reach` of a line.
-// From the edges outward: the number k outside of an edge is the one k inside of it, which is there already.
+// From the edges outward: the number k outside of an edge is the one k inside of it, which is there already. By
+// lengths and not by parts, since one line holds the row and both edges.
 pub fn mirror_edges(line: &mut [u16], n: usize, reach: usize)
     requires row { 0 < n }
     requires room { n + 2 * reach ≤ length line.old }

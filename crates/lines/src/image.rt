@@ -21,7 +21,7 @@ pub struct Image<'a> {
 }
 
 impl<'a> Image<'a> {
-    // Row i.
+    // Row i. Here and below i is an index, whose bound is asked for where it is used, as that of a slice is.
     pub fn row(&self, i: usize) -> &'a [u16]
         requires { i < self.now.shape.rows }
         ensures { result.now ≡ row_of self.now.shape.columns self.now.readings.now i }
@@ -31,7 +31,8 @@ impl<'a> Image<'a> {
         &self.readings[start..start + columns]
     }
 
-    // The row that a row's position of the padded image stands for.
+    // The row that a row's position of the padded image stands for. One for each axis, since each takes its own numbers
+    // of the shape: `mirrored` is what they share.
     fn row_at(&self, position: usize) -> usize
         ensures within { result < self.now.shape.rows }
         ensures place { result ≡ mirror self.now.shape.rows (reach self.now.shape.mask_rows) position }

@@ -1,13 +1,14 @@
 // Passes over sums in lent memory, for the engines: each is one loop without a branch over contiguous numbers,
-// so that it compiles to packed instructions. Internal: each has a `requires`, which every engine meets; `lower`
-// serves the live window too.
+// so that it compiles to packed instructions. A second slice is read at the place of the first: where
+// `iter_mut().zip(..)` goes over two, the invariant of a loop has no word for what the first holds so far. Internal: each
+// has a `requires`, which every engine meets; `lower` serves the live window too.
 #![tactic(auto)]
 
 ghost use Rattle.std.specs.Prelude.{◌≡◌, ◌+◌, ◌^◌, ◌<◌, ◌≤◌, min, length, slice_index, EachIndex};
 ghost use Rattle.memory.specs.Memory.{Each, Signed, lowest};
 ghost use Rattle.memory.specs.Parts.{held, added, swapped, turned, summed};
 
-// No sum: the highest signed number, above every sum.
+// No sum: the highest signed number, above every sum. A number and no `Option`, for packed instructions.
 pub const NO_SUM: u32 = 2147483647;
 
 // Adds to each sum the distance that enters.

@@ -33,6 +33,7 @@ impl Pair {
     }
 }
 
+// One of two numbers: one `if` to a function, so that the loop packs.
 fn pick(first: bool, a: u32, b: u32) -> u32
     ensures { result ≡ (if first then a else b) }
 {

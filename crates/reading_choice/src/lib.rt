@@ -1,7 +1,8 @@
 // The choice of the reading engine (document 000, section 3): ranks of readings, by which equal sums are told
 // apart, and the phase by the rank that is kept. `Best` keeps the lowest sum of each window with its rank.
-// Each pass is one loop without a branch over contiguous numbers. Internal: the engine meets each `requires`,
-// and so does the live window, which takes its ranks and its phase from here.
+// Each pass is one loop without a branch over contiguous numbers: so there is one `if` to a function, and a cycle, a
+// tick and a rank are bare numbers, with their bounds asked for. Internal: the engine meets each `requires`, and so
+// does the live window, which takes its ranks and its phase from here.
 #![tactic(auto)]
 
 mod best;

@@ -1,7 +1,9 @@
 // Passes over lines of readings, for the reading engine: what readings add to sums, steps, changes. Each goes
 // without a branch over contiguous numbers, so that it compiles to packed instructions. Those that
-// measure are told whether silence needs no test (`plain`). Internal: each has a `requires`, which the engine
-// meets.
+// measure are told whether silence needs no test: `plain` is a flag, since a loop asks it once and becomes two
+// packed loops. They are three and not one, since each has another formula in its loop and nothing else. A second
+// slice is read at the place of the first: where `iter_mut().zip(..)` goes over two, the invariant of a loop has no word
+// for what the first holds so far. Internal: each has a `requires`, which the engine meets.
 #![tactic(auto)]
 
 ghost use Rattle.std.specs.Prelude.{◌≡◌, ◌+◌, ◌/◌, ◌≤◌, length};
@@ -83,7 +85,8 @@ pub fn begin(changes: &mut [u32], own: &[u16])
     }
 }
 
-// Adds to each change what its reading gains.
+// Adds to each change what its reading gains: `memory::add` of numbers half as wide, which one over a type would have
+// to widen in its loop.
 pub fn grow(changes: &mut [u32], gains: &[u16])
     requires { length changes.old ≤ length gains.now }
     ensures { Each changes.new (added changes.old gains.now) }
@@ -103,7 +106,8 @@ pub fn move_on(changes: &mut [u32], steps: &[u16], half: u32)
     }
 }
 
-// The same, and adds the changes from place `at` on to a plane.
+// The same, and adds the changes from place `at` on to a plane. A place and not a part of the changes: all of them move
+// in one pass, which packs, and over two parts it did not.
 pub fn move_add(changes: &mut [u32], steps: &[u16], half: u32, at: usize, plane: &mut [u32])
     requires steps_long { length changes.old ≤ length steps.now }
     requires changes_long { at + length plane.old ≤ length changes.old }

@@ -14,7 +14,7 @@ use reading_lines::{move_add, steps};
 use shape::Shape;
 
 // A line whose planes are carried: `entering` comes in below the windows, and `leaving` goes out above. `plain`
-// says that silence needs no test.
+// says that silence needs no test: a flag, since a loop asks it once and becomes two packed loops.
 #[derive(Clone, Copy)]
 pub struct Carried<'a> {
     pub shape: Shape,

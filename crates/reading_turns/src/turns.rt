@@ -1,5 +1,6 @@
 // The turn of a mask row. Its two forms stay apart, since their sweeps are lent different lines: the one that
-// builds counts rows in two lines, one of which holds the row that leaves for the one that carries.
+// builds counts rows in two lines, one of which holds the row that leaves for the one that carries. A trait over both
+// sweeps would say once more what each holds and adds, for a loop of five lines.
 ghost use Rattle.std.specs.Prelude.{◌≡◌, ◌+◌, ◌-◌, ◌<◌, length, IsTrue};
 ghost use Rattle.lines.specs.Lines.{PaddedLine};
 ghost use Rattle.reading_planes.specs.Planes.{planes_length};
