@@ -1,13 +1,12 @@
 -- What it says of the arguments that the tests of a call are clear. Assumes nothing.
-use Rattle.std.proofs.Common.{◌≡◌, ℕ, ◌<◌, ◌≤◌, true, List, [], ◌∷◌, length, get_or, arith, ltb-false, ltb-true, le-ltb, ne_eqb}
+use Rattle.std.proofs.Common.{◌≡◌, ℕ, ◌<◌, ◌≤◌, true, List, length, get_or, arith, ltb-false, ltb-true, le-ltb, ne_eqb}
 use borrow.Author.Tests.{eqb-false, not-false}
 use Rattle.lists.specs.First.{first_bad}
 use Rattle.lists.proofs.First.{before-first}
 use Rattle.refusal.specs.Limits.{longest_cycle, most_columns}
 use Rattle.refusal.specs.Outcome.{Clear}
-use Rattle.refusal.proofs.Outcome.{clear_split}
 use Rattle.cycle.specs.Silence.{is_reading}
-use Rattle.cycle.specs.Calls.{pair_rules, tick_rule, slot_rules, row_rules}
+use Rattle.cycle.specs.Calls.{pair_rules, row_rules}
 
 pub record Pair (c a b : ℕ) : Type 0 where
   pub cycle_some : 0 < c
@@ -24,10 +23,6 @@ pair_clear c a b clear =
       first = ltb-true a c (not-false _ clear.1.1.0);
       second = ltb-true b c (not-false _ clear.1.1.1.0);
     }
-
--- of slot, what its first two tests on ticks say
-pub slot_clear : (c p s w : ℕ) → Clear (slot_rules c p s w) → Pair c p s
-slot_clear c p s w clear = pair_clear c p s (clear_split (pair_rules c p s) (tick_rule c w 2 ∷ []) clear).0
 
 pub record DriftRow (c : ℕ) (row : List ℕ) : Type 0 where
   pub cycle_some : 0 < c

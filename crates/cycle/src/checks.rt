@@ -61,6 +61,7 @@ pub fn check_readings(cycle: u32, readings: &[u16]) -> Result<(), Refusal>
 }
 
 // The tests of distance and step.
+#[tactic(auto, unfolding(refusal::specs::Outcome::first_due))]
 pub fn check_pair(cycle: u32, a: u16, b: u16) -> Result<(), Refusal>
     ensures { outcome result ≡ first_due (pair_rules cycle a b) tt }
 {
@@ -70,6 +71,7 @@ pub fn check_pair(cycle: u32, a: u16, b: u16) -> Result<(), Refusal>
 }
 
 // The tests of slot.
+#[tactic(auto, unfolding(refusal::specs::Outcome::first_due))]
 pub fn check_slot(cycle: u32, p: u16, s: u16, w: u16) -> Result<(), Refusal>
     ensures { outcome result ≡ first_due (slot_rules cycle p s w) tt }
 {
@@ -78,6 +80,7 @@ pub fn check_slot(cycle: u32, p: u16, s: u16, w: u16) -> Result<(), Refusal>
 }
 
 // The tests of drift.
+#[tactic(auto, unfolding(refusal::specs::Outcome::first_due))]
 pub fn check_row(cycle: u32, row: &[u16]) -> Result<(), Refusal>
     ensures { outcome result ≡ first_due (row_rules cycle row.now) tt }
 {

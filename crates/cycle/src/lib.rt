@@ -18,6 +18,7 @@ pub use ticks::{SILENT, apart, apart_by_formula};
 use ticks::{ahead_of, drift_of, signed_step};
 
 // The distance of two ticks.
+#[tactic(auto, unfolding(refusal::specs::Outcome::first_due, crate::specs::Calls::distance_due))]
 pub fn distance(cycle: u32, a: u16, b: u16) -> Result<u16, Refusal>
     ensures { outcome result ≡ distance_due cycle a b }
 {
@@ -26,6 +27,7 @@ pub fn distance(cycle: u32, a: u16, b: u16) -> Result<u16, Refusal>
 }
 
 // The signed step from one tick to another.
+#[tactic(auto, unfolding(refusal::specs::Outcome::first_due, crate::specs::Calls::step_due))]
 pub fn step(cycle: u32, from: u16, to: u16) -> Result<i32, Refusal>
     ensures { outcome result ≡ step_due cycle from to }
 {
@@ -34,6 +36,7 @@ pub fn step(cycle: u32, from: u16, to: u16) -> Result<i32, Refusal>
 }
 
 // Whether tick p is in the slot that starts at s and is w wide.
+#[tactic(auto, unfolding(refusal::specs::Outcome::first_due, crate::specs::Calls::slot_due, crate::specs::Step::in_slot))]
 pub fn slot(cycle: u32, p: u16, s: u16, w: u16) -> Result<bool, Refusal>
     ensures { outcome result ≡ slot_due cycle p s w }
 {
@@ -42,6 +45,7 @@ pub fn slot(cycle: u32, p: u16, s: u16, w: u16) -> Result<bool, Refusal>
 }
 
 // The drift of a row: the sum of the steps from each heard reading to the next.
+#[tactic(auto, unfolding(refusal::specs::Outcome::first_due, crate::specs::Calls::drift_due))]
 pub fn drift(cycle: u32, row: &[u16]) -> Result<i32, Refusal>
     ensures { outcome result ≡ drift_due cycle row.now }
 {
