@@ -13,6 +13,7 @@ use crate::list::{LISTED_CYCLE, entry_at};
 pub const SILENT: u16 = 65535;
 
 // The distance of two ticks: by the list on the list's cycle, and else by the formula.
+#[tactic(auto, using(crate::proofs::ListLaws::by_list))]
 pub fn apart(cycle: u16, a: u16, b: u16) -> u16
     ensures { result ≡ distance cycle a b }
 {
@@ -24,6 +25,7 @@ pub fn apart(cycle: u16, a: u16, b: u16) -> u16
 
 // The same by the formula on every cycle, also on the list's: 16 bits wide and free of branches, for packed
 // loops over many, which have no look-up.
+#[tactic(auto, unfolding(crate::specs::Distance::distance))]
 pub fn apart_by_formula(cycle: u16, a: u16, b: u16) -> u16
     ensures { result ≡ distance cycle a b }
 {
@@ -40,6 +42,7 @@ pub fn ahead_of(cycle: u32, a: u32, b: u32) -> u32
 }
 
 // The whole cycle that a step of e ticks ahead takes off again: none where it goes forward, which half a cycle does not.
+#[tactic(auto, using(refusal::proofs::Outcome::tests), unfolding(crate::specs::Step::is_forward))]
 fn turn_back(cycle: u32, e: u32) -> u32
     requires { e < 2 ^ 31 }
     ensures { result ≡ (if is_forward cycle e then 0 else cycle) }
@@ -48,6 +51,7 @@ fn turn_back(cycle: u32, e: u32) -> u32
 }
 
 // up - back
+#[tactic(auto, using(crate::proofs::SignedLaws::sub_fits, crate::proofs::SignedLaws::sub_is))]
 fn signed(up: u32, back: u32) -> i32
     requires { (up < 2 ^ 30) × (back < 2 ^ 30) }
     ensures { result ≡ pos up -ℤ pos back }
@@ -65,6 +69,7 @@ pub fn signed_step(cycle: u32, a: u32, b: u32) -> i32
 }
 
 // How many ticks a reading lies ahead of the last one heard: none if either is silent.
+#[tactic(auto, unfolding(crate::specs::Gaps::way_on, crate::specs::Silence::is_heard, crate::specs::Silence::is_reading))]
 fn way_on(cycle: u32, last: u16, z: u16) -> u32
     requires { (is_reading cycle last ≡ true) × (is_reading cycle z ≡ true) }
     ensures { result ≡ way_on cycle last z }
@@ -76,6 +81,7 @@ fn way_on(cycle: u32, last: u16, z: u16) -> u32
 }
 
 // The last reading heard, with one reading more.
+#[tactic(auto, unfolding(crate::specs::Gaps::latest, crate::specs::Silence::is_heard))]
 fn later(last: u16, z: u16) -> u16
     ensures { result ≡ latest last z }
 {

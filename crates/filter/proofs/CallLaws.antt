@@ -1,10 +1,9 @@
 -- Laws of a filter call: what acceptance says, and the work memory that it leaves. Assumes nothing.
 use Prim.Native.Nat.{ℕ, ◌≤◌, ◌<◌}
-use mathlib.Core.Path.{◌≡◌, ap, sym, ◌∙◌}
+use mathlib.Core.Path.{◌≡◌, sym, ◌∙◌}
 use mathlib.Core.List.{List, ◌++◌}
 use native.Mathlib.Omega.{arith}
 use native.Mathlib.Decide.{dec_lt}
-use native.Mathlib.Nat.{zero-add}
 use borrow.Author.Tests.{le-ltb, eq-eqb, ltb-false, eqb-true, not-false}
 use lib.ListN.{length, get_or, drop}
 use Rattle.std.proofs.Common.{replicate, rules}
@@ -22,6 +21,7 @@ use Rattle.shape.specs.Rules.{shape_rules, area}
 use Rattle.shape.specs.declared.Shape.{Shape}
 use Rattle.memory.specs.Memory.{Changed}
 use Rattle.memory.specs.Parts.{zeros}
+use Rattle.memory.proofs.Memory.{changed_first}
 use Rattle.window.specs.Ready.{Ready}
 use Rattle.filter.specs.declared.Engine.{Engine}
 use Rattle.filter.specs.declared.Engine.TheVariants.{Level, Reading}
@@ -68,8 +68,7 @@ zeroed {w} {w'} {need} w₀ room len beyond x =
     ext_get_or 0 w' (written (λ k. 0) 0 need w₀) (x.len ∙ len ∙ sym (length-written (λ k. 0) 0 need w₀ (omega arith) room)) (λ k i. at k (dec_lt k need))
   where
     at : (k : ℕ) → Dec (k < need) → get_or w' k 0 ≡ get_or (written (λ k. 0) 0 need w₀) k 0
-    at k (yes h) = ap (λ (l : ℕ). get_or w' l 0) (sym (zero-add k)) ∙ x.holds k h
-        ∙ sym (written-inside (λ k. 0) 0 need w₀ (omega arith) room 0 k (omega arith) h)
+    at k (yes h) = changed_first x k h ∙ sym (written-inside (λ k. 0) 0 need w₀ (omega arith) room 0 k (omega arith) h)
     at k (no h) = x.after k (omega arith) ∙ beyond k (omega arith) ∙ sym (written_after (λ k. 0) 0 need w₀ (omega arith) room 0 k (omega arith))
 
 -- What it says that a call is accepted, and of which tests a good image need not fear.

@@ -10,6 +10,7 @@ use shape::{Shape, check_buffer, check_input, check_rows, check_work};
 use std::ops::Range;
 
 // 7 and 8, where so many numbers of output and of work memory are needed.
+#[tactic(auto, unfolding(refusal::specs::Outcome::first_due))]
 fn check_memory(phases: usize, need: usize, output: usize, work: usize) -> Result<(), Refusal>
     ensures { outcome result ≡ first_due (memory_rules phases need output work) tt }
 {
@@ -18,6 +19,7 @@ fn check_memory(phases: usize, need: usize, output: usize, work: usize) -> Resul
 }
 
 // 5 to 9, for an engine that needs so many numbers of work memory.
+#[tactic(auto, unfolding(refusal::specs::Outcome::first_due))]
 fn check_image(
     shape: Shape,
     need: usize,
@@ -36,6 +38,7 @@ fn check_image(
 }
 
 // Whether an engine filters a good image of that shape, with so much output and work memory: 1 to 3, 7, 8.
+#[tactic(auto, unfolding(refusal::specs::Outcome::first_due, crate::specs::Calls::room_due))]
 pub fn check_room(engine: Engine, shape: Shape, output: usize, work: usize) -> Result<(), Refusal>
     ensures { outcome result ≡ room_due engine shape output work }
 {
@@ -44,6 +47,7 @@ pub fn check_room(engine: Engine, shape: Shape, output: usize, work: usize) -> R
 }
 
 // All tests of a call of an engine.
+#[tactic(auto, unfolding(refusal::specs::Outcome::first_due, crate::specs::Calls::filter_due))]
 pub fn check_filter(
     engine: Engine,
     shape: Shape,

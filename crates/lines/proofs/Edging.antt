@@ -6,7 +6,6 @@ use native.Mathlib.Omega.{arith}
 use native.Mathlib.Decide.{ℕ_discrete}
 use lib.ListN.{length, get_or, set, length-set}
 use lib.Seq.{get_or-set_same, get_or-set_other}
-use Rattle.memory.specs.Memory.{Changed}
 use Rattle.window.specs.Mirror.{mirror}
 use Rattle.window.proofs.Mirror.{mirror-inside, mirror-start, mirror-end}
 use Rattle.lines.specs.Lines.{edged}
@@ -70,11 +69,3 @@ module _ {line₀ : List ℕ} {n h : ℕ} where
           rw d (get_or-set_other low (h + n + k) (h - 1 - k) v 0 (omega arith) ∙ get_or-set_same line (h - 1 - k) u 0 (omega (arith, c.len))
           ∙ c.within (h + k) (omega arith) (omega arith) ∙ same (h + k) (h - 1 - k) (sym (mirror-start n h k some l)))
       go p g i (no a) (no d) = other p a d ∙ c.within p (omega arith) (omega arith)
-
-  pub edging_all : {line : List ℕ} {k : ℕ} → Edging line₀ line n h k → k ≡ h → Changed line₀ line 0 (n + 2 * h) (edged line₀ n h)
-  edging_all {line} c e = record {
-    len = c.len;
-    before = λ p g. absurd (omega arith);
-    holds = λ q g. let z : 0 + q ≡ q = omega arith in rw z (c.within q (omega arith) (omega arith));
-    after = λ p g. c.after p (omega arith);
-  }

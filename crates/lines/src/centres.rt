@@ -6,6 +6,7 @@ ghost use Rattle.lines.specs.Lines.{AllHeard, heard_or, stood_in};
 use cycle::{SILENT, highest};
 
 // A centre, or else a reading where it is silent.
+#[tactic(auto, unfolding(cycle::specs::Silence::is_heard))]
 fn heard_or(centre: u16, reading: u16) -> u16
     ensures { result ≡ heard_or centre reading }
 {

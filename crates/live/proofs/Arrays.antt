@@ -1,10 +1,10 @@
 -- Laws of the arrays of a live window: once a reading has entered they are those of the longer history. Assumes nothing.
-use Rattle.std.proofs.Common.{ℕ, ◌+◌, ◌-◌, ◌≤◌, ◌<◌, ◌≡◌, nat_lt, if◌then◌else◌, ap, sym, ◌∙◌, true, List, [], ◌∷◌, ◌++◌, append-nil, arith, lt-ltb, le-ltb, length, drop, get_or, replicate, ext_get_or}
+use Rattle.std.proofs.Common.{ℕ, ◌+◌, ◌-◌, ◌≤◌, ◌<◌, ◌≡◌, nat_lt, if◌then◌else◌, ap, sym, ◌∙◌, true, List, [], ◌∷◌, ◌++◌, append-nil, arith, lt-ltb, le-ltb, length, drop, get_or, replicate}
 use native.Mathlib.Decide.{dec_lt}
 use lib.ListN.{length-replicate, get_or-replicate}
 use Rattle.lists.specs.Members.{Each}
 use Rattle.lists.specs.Tabulate.{tabulate}
-use Rattle.lists.proofs.Tabulate.{length-tabulate, tabulate-append, tabulate_cong}
+use Rattle.lists.proofs.Tabulate.{length-tabulate, tabulate-append, is_tabulate, tabulate_cong}
 use Rattle.std.proofs.lemmas.List.{drop_at}
 use Rattle.refusal.specs.Limits.{live_length}
 use Rattle.cycle.specs.Silence.{silent, is_reading}
@@ -18,9 +18,7 @@ use Rattle.live.proofs.Sliding.{place-holds, held_readings, held_sums, slid_live
 -- an array that is one number throughout
 pub all_one : (v : ℕ) (f : ℕ → ℕ) → ((k : ℕ) → f k ≡ v) → replicate live_length v ≡ tabulate f 0 live_length
 all_one v f e =
-    ext_get_or 0 (replicate live_length v) (tabulate f 0 live_length) (length-replicate live_length v ∙ sym (length-tabulate f 0 live_length))
-    (λ k h. let l : k < live_length = omega (arith, length-replicate live_length v) in
-    get_or-replicate live_length k v 0 l ∙ sym (place-holds f live_length k l ∙ e k))
+    is_tabulate 0 f 0 live_length (length-replicate live_length v) (λ k h. get_or-replicate live_length k v 0 h ∙ sym (e (0 + k)))
 
 -- fresh: all silent, all sums 0
 pub fresh_reading : (t k : ℕ) → reading_at t [] k ≡ silent
@@ -35,8 +33,7 @@ fresh_sum c t k = shares-silent c (reading_at t [] k) (latest_of t []) (fresh_re
 
 -- a list by its places
 part-is : (f : ℕ → ℕ) {part : List ℕ} {t : ℕ} → length part ≡ t → ((k : ℕ) → k < length part → get_or part k 0 ≡ f k) → part ≡ tabulate f 0 t
-part-is f {part} {t} long each =
-    ext_get_or 0 part (tabulate f 0 t) (long ∙ sym (length-tabulate f 0 t)) (λ k h. each k h ∙ sym (place-holds f t k (omega arith)))
+part-is f {part} {t} long each = is_tabulate 0 f 0 t long (λ k h. each k (omega arith) ∙ ap f (omega arith))
 
 -- an array of which the first t places changed
 array-is : (old new : ℕ → ℕ) (t : ℕ) → t ≤ live_length → ((k : ℕ) → t ≤ k → old k ≡ new k)

@@ -1,12 +1,12 @@
 -- Laws of the last t readings of a history, and of one reading more. Assumes nothing.
-use Rattle.std.proofs.Common.{ℕ, zero, suc, ◌+◌, ◌-◌, ◌≤◌, ◌<◌, ◌≡◌, refl, ap, sym, ◌∙◌, true, List, [], ◌∷◌, ◌++◌, append_assoc, arith, length, get_or, replicate, length-append, length-drop, get_or-drop, ext_get_or}
+use Rattle.std.proofs.Common.{ℕ, zero, suc, ◌+◌, ◌-◌, ◌≤◌, ◌<◌, ◌≡◌, refl, ap, sym, ◌∙◌, true, List, [], ◌∷◌, ◌++◌, append_assoc, arith, length, get_or, replicate, length-append, length-drop, get_or-drop}
 use lib.ListN.{length-replicate, get_or-append, get_or-eq_default}
 use lib.Seq.{get_or_at}
 use Rattle.lists.specs.Members.{In, Each}
 use Rattle.lists.specs.Tabulate.{tabulate}
 use Rattle.lists.specs.Total.{total}
 use Rattle.lists.proofs.Members.{each_append, each_get_or}
-use Rattle.lists.proofs.Tabulate.{length-tabulate, get_or-tabulate, tabulate_cong, each_tabulate, in_tabulate}
+use Rattle.lists.proofs.Tabulate.{is_tabulate, tabulate_cong, each_tabulate, in_tabulate}
 use Rattle.lists.proofs.Total.{total_on}
 use Rattle.cycle.specs.Silence.{silent, is_reading}
 use Rattle.cycle.proofs.SilenceLaws.{silent-reading}
@@ -33,8 +33,7 @@ module _ (t : ℕ) (history : List ℕ) where
   pub latest-is : latest_of t history ≡ tabulate (reading_at t history) 0 t
   unfolding reading_at
   latest-is =
-      ext_get_or silent (latest_of t history) (tabulate (reading_at t history) 0 t) (latest-length ∙ sym (length-tabulate (reading_at t history) 0 t))
-      (λ k h. sym (get_or-tabulate (reading_at t history) silent 0 t k (omega (arith, latest-length)) ∙ ap (reading_at t history) (omega arith)))
+      is_tabulate silent (reading_at t history) 0 t latest-length (λ k h. ap (reading_at t history) (omega arith))
 
   -- behind them there is silence
   pub reading_beyond : (k : ℕ) → t ≤ k → reading_at t history k ≡ silent

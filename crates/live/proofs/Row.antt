@@ -3,13 +3,14 @@
 -- the contracts of the calls alone, for either engine. Assumes nothing.
 use Rattle.std.proofs.Common.{ℕ, ◌+◌, ◌-◌, ◌*◌, ◌≤◌, ◌<◌, ◌≡◌, ap, sym, ◌∙◌, true, List, [], ◌∷◌, ◌++◌, append-nil, arith, zero-mul, add-one, lt-ltb, le-ltb, length, get_or, take, drop, replicate, take-append-drop, get_or-take, get_or-append-add, length-take-le, take-suc, Result, Ok}
 use lib.ListN.{length-replicate}
+use Rattle.std.proofs.lemmas.List.{get_or_default}
 use Rattle.lists.specs.Members.{Each}
 use Rattle.lists.specs.Tabulate.{tabulate}
 use Rattle.lists.specs.Joined.{joined}
 use Rattle.lists.specs.Keep.{keep}
 use Rattle.lists.proofs.First.{all_good}
 use Rattle.lists.proofs.Keep.{keep_all}
-use Rattle.lists.proofs.Members.{get_or_any, each_get_or, each_split}
+use Rattle.lists.proofs.Members.{each_get_or, each_split}
 use Rattle.lists.proofs.Tabulate.{tabulate_cong}
 use Rattle.refusal.specs.declared.Refusal.{Refusal}
 use Rattle.refusal.specs.Outcome.{outcome}
@@ -54,7 +55,7 @@ module _ (c t : ℕ) (row : List ℕ) (k : ℕ) (odd : t ≡ 2 * reach t + 1) (f
       ∙ ap (λ (p : ℕ). get_or (replicate t silent ++ pushed) p silent) (omega (arith, length_front row k upto, length-replicate t silent))
       ∙ get_or-append-add (replicate t silent) pushed (k + 1 - t + i) silent
       ∙ get_or-take (k + 1) row (k + 1 - t + i) silent (omega arith)
-      ∙ get_or_any row (k + 1 - t + i) silent 0 (omega arith)
+      ∙ get_or_default row (k + 1 - t + i) silent 0 (omega arith)
 
   -- and so is the window of the spot t / 2 before reading k, which no edge cuts
   padded_row : (i : ℕ) → i < t → padded 0 s row 0 (k - reach t + i) ≡ get_or row (k + 1 - t + i) 0

@@ -5,7 +5,7 @@ use mathlib.Core.Path.{◌≡◌, ap, sym, ◌∙◌}
 use mathlib.Core.Bool.{true}
 use mathlib.Core.List.{List}
 use native.Mathlib.Omega.{arith}
-use native.Mathlib.Nat.{add-zero, mod-lt, mul-le-mul}
+use native.Mathlib.Nat.{add-zero}
 use lib.ListN.{get_or}
 use Rattle.lists.specs.Tabulate.{tabulate}
 use Rattle.lists.specs.Total.{total_from}
@@ -14,7 +14,7 @@ use Rattle.lists.proofs.Total.{total_places, total-zeros, total_from_cong}
 use Rattle.lists.proofs.Difference.{difference-is}
 use Rattle.cycle.specs.Silence.{is_reading}
 use Rattle.cycle.proofs.SilenceLaws.{reading_case}
-use Rattle.refusal.specs.Limits.{longest_cycle, most_columns, most_mask_rows, most_mask_columns}
+use Rattle.refusal.specs.Limits.{longest_cycle}
 use Rattle.refusal.specs.Outcome.{Clear}
 use Rattle.shape.specs.Rules.{shape_rules}
 use Rattle.shape.specs.declared.Shape.{Shape}
@@ -29,7 +29,7 @@ use Rattle.lines.specs.Lines.{PaddedLine, line_length, padded_length}
 use Rattle.reading_lines.specs.Passes.{of_line, mark}
 use Rattle.reading_lines.proofs.Marks.{mark-none, mark-silent}
 use Rattle.reading_planes.specs.Planes.{Gain, of_rows, none, marked, whole, planes_length}
-use Rattle.reading_planes.specs.Sums.{place, reading_sum}
+use Rattle.reading_planes.specs.Sums.{reading_sum}
 
 -- a plane lies within the planes
 pub plane_within : (s : Shape) (l : ℕ) → l < s.mask_columns → l * s.columns + s.columns ≤ planes_length s
@@ -42,17 +42,6 @@ module _ (s : Shape) (clear : Clear (shape_rules longest_cycle s)) where
   -- lines have room for what the sweeps go over
   pub line_room : s.columns + s.mask_columns ≤ line_length
   line_room = omega (arith, sizes.columns_fit, sizes.mask_columns_fit)
-
-  -- the planes of one position, and where they start, are small numbers
-  pub planes_fit : planes_length s ≤ most_mask_columns * most_columns
-  planes_fit =
-      mul-le-mul {n₁ = s.mask_columns} {m₁ = s.columns} {n₂ = most_mask_columns} {m₂ = most_columns} sizes.mask_columns_fit sizes.columns_fit
-
-  pub place-fits : (a : ℕ) → place s a ≤ most_mask_rows * (most_mask_columns * most_columns)
-  place-fits a =
-      let h : a % s.mask_rows < s.mask_rows = mod-lt a (omega (arith, sizes.mask_rows_odd)) in
-      mul-le-mul {n₁ = a % s.mask_rows} {m₁ = planes_length s} {n₂ = most_mask_rows} {m₂ = most_mask_columns * most_columns}
-      (omega (arith, sizes.mask_rows_fit)) planes_fit
 
   -- places of a window lie within a line
   pub place_inside : (l j : ℕ) → l < s.mask_columns → j < s.columns → l + j < padded_length s

@@ -4,8 +4,6 @@ use native.Mathlib.Decide.{ℕ_discrete}
 use borrow.Author.Tests.{not-false}
 use Rattle.lists.proofs.Tabulate.{length-tabulate, get_or-tabulate, tabulate-append}
 use Rattle.refusal.specs.Outcome.{Clear}
-use Rattle.refusal.specs.Outcome.Outcome.{accepted}
-use Rattle.refusal.proofs.Outcome.{told, passed_clear}
 use Rattle.record_format.specs.Layout.{head_length, length_of, body_of, numbers_length}
 use Rattle.record_format.specs.declared.Tag.{Tag}
 use Rattle.record_format.specs.Fields.{tag_byte, number_at, numbers_at}
@@ -41,10 +39,6 @@ module _ (bytes : List ℕ) (at : ℕ) (tag : Tag) (due : ℕ) where
         length-is = eqb-true _ due (not-false _ k.1.1.0);
         whole = omega arith;
       }
-
-  -- as an answer says it
-  pub field-passed : {u : Unit {0}} → accepted u ≡ told (field_rules bytes at tag due) → FieldAt bytes at tag due
-  field-passed said = field_clear (passed_clear (field_rules bytes at tag due) said)
 
   pub clear_field : FieldAt bytes at tag due → Clear (field_rules bytes at tag due)
   clear_field f = (

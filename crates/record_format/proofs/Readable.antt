@@ -1,6 +1,6 @@
 -- What it says of bytes that the reader's tests are clear, and back. The list of tests is split into those of each field, and these into the
 -- four of the field and those of its values; `FieldAt` and `RowIn` say what each of these parts means. Assumes nothing.
-use Rattle.std.proofs.Common.{ℕ, zero, suc, ◌+◌, ◌*◌, ◌≤◌, ◌<◌, ◌≡◌, true, false, List, [], ◌∷◌, ◌++◌, arith, add-one, le-ltb, ltb-false, length}
+use Rattle.std.proofs.Common.{ℕ, ◌+◌, ◌*◌, ◌≤◌, ◌<◌, ◌≡◌, true, false, List, [], ◌∷◌, ◌++◌, arith, le-ltb, ltb-false, length}
 use Rattle.lists.specs.First.{first_bad}
 use Rattle.lists.specs.Joined.{joined}
 use Rattle.lists.proofs.First.{all_good, good_all}
@@ -54,13 +54,6 @@ module _ (bytes : List ℕ) where
       (placed_after (i * columns_in bytes) (reading_rule (cycle_in bytes) (row_in bytes i)) ∷ [])
       (clear_field bytes (row_at bytes i) tags.Row (numbers_length (columns_in bytes)) r.field)
       (le-ltb (first_bad (is_reading (cycle_in bytes)) (row_in bytes i)) (length (row_in bytes i)) r.good, tt)
-
-  -- the row fields lie within the bytes
-  pub rows_within : (m : ℕ) → Clear (joined (row_field_rules bytes) 0 m) → row_at bytes 0 ≤ length bytes → row_at bytes m ≤ length bytes
-  rows_within zero k h = h
-  rows_within (suc m) k h =
-      let last = row_clear m (each_in_joined (row_field_rules bytes) Quiet 0 (suc m) k m (omega arith) (omega arith)) in
-      rw (← (add-one m)) (omega (arith, row_next m, last.field.whole))
 
 pub record Readable (bytes : List ℕ) (room : ℕ) : Type 0 where
   pub cycle : FieldAt bytes cycle_field_at tags.Cycle (numbers_length 1)

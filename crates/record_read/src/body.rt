@@ -64,6 +64,7 @@ impl Record<'_> {
     }
 
     // The field of row i.
+    #[tactic(auto, unfolding(refusal::specs::Outcome::first_due, record_format::specs::Reading::row_field_rules))]
     fn check_row(&self, i: usize) -> Result<(), Refusal>
         requires { i < rows_in self.now.bytes.now }
         ensures { outcome result ≡ first_due (row_field_rules self.now.bytes.now i) tt }
@@ -84,6 +85,7 @@ impl Record<'_> {
     }
 
     // Field FF, and that it is the last.
+    #[tactic(auto, unfolding(refusal::specs::Outcome::first_due))]
     fn check_end(&self) -> Result<(), Refusal>
         ensures { outcome result ≡ first_due (end_field_rules self.now.bytes.now) tt }
     {

@@ -24,6 +24,7 @@ const DEFAULT_MASK_ROWS: u32 = 1;
 const DEFAULT_MASK_COLUMNS: u32 = 3;
 
 // Field 01.
+#[tactic(auto, unfolding(refusal::specs::Outcome::first_due))]
 fn check_cycle_field(bytes: &[u8]) -> Result<(), Refusal>
     ensures { outcome result ≡ first_due (cycle_field_rules bytes.now) tt }
 {
@@ -32,6 +33,7 @@ fn check_cycle_field(bytes: &[u8]) -> Result<(), Refusal>
 }
 
 // Field 02.
+#[tactic(auto, unfolding(refusal::specs::Outcome::first_due))]
 fn check_size_field(bytes: &[u8]) -> Result<(), Refusal>
     ensures { outcome result ≡ first_due (size_field_rules bytes.now) tt }
 {
@@ -93,6 +95,7 @@ fn shape_in(bytes: &[u8]) -> Shape
 }
 
 // The first three fields; the shape that they hold is read once their lengths are known to be good.
+#[tactic(auto, unfolding(refusal::specs::Outcome::first_due))]
 pub fn check_head(bytes: &[u8], room: usize) -> Result<Shape, Refusal>
     ensures { outcome result ≡ first_due (head_rules bytes.now ++ mask_value_rules (shape_in bytes.now) room) (shape_in bytes.now) }
 {

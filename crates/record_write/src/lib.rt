@@ -32,6 +32,7 @@ fn row_at(columns: usize, i: usize) -> usize
 }
 
 // The length of a record whose shape has passed its tests.
+#[tactic(auto, unfolding(record_format::specs::Record::record_length))]
 fn length_of(shape: Shape) -> usize
     requires { Clear (shape_rules longest_cycle shape) }
     ensures { result ≡ record_length shape }
@@ -40,6 +41,7 @@ fn length_of(shape: Shape) -> usize
 }
 
 // Tests 1 to 3, and then 6, 7 and 9.
+#[tactic(auto, unfolding(refusal::specs::Outcome::first_due))]
 pub fn check_write(shape: Shape, readings: &[u16], room: usize) -> Result<(), Refusal>
     ensures { outcome result ≡ first_due (write_rules shape readings.now room) tt }
 {

@@ -47,7 +47,7 @@ read_good bytes room s said =
 
 module _ (bytes : List ℕ) (readings output work : ℕ) where
   -- too long
-  pub long_call : {n k : ℕ} → refused n k ≡ length_due bytes → refused n k ≡ sheet_due bytes readings output work
+  long_call : {n k : ℕ} → refused n k ≡ length_due bytes → refused n k ≡ sheet_due bytes readings output work
   unfolding sheet_due
   long_call said = rw (← said)
 
@@ -56,10 +56,6 @@ module _ (bytes : List ℕ) (readings output work : ℕ) where
         ≡ and_then (read_due bytes readings) (λ s. and_then (filtered_due s (image_in bytes) output work) (λ u. accepted s))
     unfolding sheet_due
     short_call = rw (← short)
-
-    -- refused by the reader
-    pub unread_call : {n k : ℕ} → refused n k ≡ read_due bytes readings → refused n k ≡ sheet_due bytes readings output work
-    unread_call said = sym (short_call ∙ rw (← said))
 
     -- read, and then refused only for want of memory
     module _ {s : Shape} (read : accepted s ≡ read_due bytes readings) where

@@ -1,7 +1,7 @@
 -- The rows of a filtered image: they stand in the output after an accepted call, and each has a drift. Assumes nothing.
-use Rattle.std.proofs.Common.{ℕ, ◌+◌, ◌-◌, ◌*◌, ◌≤◌, ◌<◌, ◌≡◌, ap, sym, ◌∙◌, true, List, ◌++◌, arith, length, take, drop, get_or, length-take, length-drop, ext_get_or, get_or-take, get_or-drop}
+use Rattle.std.proofs.Common.{ℕ, ◌+◌, ◌-◌, ◌*◌, ◌≤◌, ◌<◌, ◌≡◌, ap, sym, ◌∙◌, true, List, ◌++◌, arith, length, take, drop, get_or, length-take, length-drop, get_or-take, get_or-drop}
 use Rattle.lists.specs.Tabulate.{tabulate, written}
-use Rattle.lists.proofs.Tabulate.{length-tabulate, get_or-tabulate, each_tabulate}
+use Rattle.lists.proofs.Tabulate.{length-tabulate, get_or-tabulate, is_tabulate, each_tabulate}
 use Rattle.lists.proofs.Joined.{joined_cong}
 use Rattle.lists.proofs.Parts.{part_end}
 use Rattle.lists.proofs.First.{good_all}
@@ -23,11 +23,7 @@ use Rattle.sheet.specs.Sheet.{filtered_image}
 -- a row of an image, by its numbers
 row_is : (n : ℕ) (l : List ℕ) (k : ℕ) (f : ℕ → ℕ) → k + n ≤ length l → ((j : ℕ) → j < n → get_or l (k + j) 0 ≡ f (k + j)) → take n (drop k l) ≡ tabulate f k n
 row_is n l k f room e =
-    ext_get_or 0 (take n (drop k l)) (tabulate f k n) (len ∙ sym (length-tabulate f k n))
-    (λ j h. get_or-take n (drop k l) j 0 (omega (arith, len)) ∙ get_or-drop k l j 0 ∙ e j (omega (arith, len)) ∙ sym (get_or-tabulate f 0 k n j (omega (arith, len))))
-  where
-    len : length (take n (drop k l)) ≡ n
-    len = simp (length-take, length-drop) (omega arith)
+    is_tabulate 0 f k n (simp (length-take, length-drop) (omega arith)) (λ j h. get_or-take n (drop k l) j 0 h ∙ get_or-drop k l j 0 ∙ e j h)
 
 -- the lines of an image go by its rows
 pub lines_cong : (s : Shape) (p q : List ℕ) → ((i : ℕ) → i < s.rows → row_of s.columns p i ≡ row_of s.columns q i) → image_lines s p ≡ image_lines s q

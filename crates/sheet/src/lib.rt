@@ -34,6 +34,7 @@ fn engine_for(shape: Shape, room: usize) -> Engine
 }
 
 // All tests of a sheet, for buffers of so many numbers: 14, then the reader's, then the filter's.
+#[tactic(auto, unfolding(refusal::specs::Outcome::first_due, crate::specs::Sheet::sheet_due))]
 fn check(bytes: &[u8], readings: usize, output: usize, work: usize) -> Result<Shape, Refusal>
     ensures { outcome result ≡ sheet_due bytes.now readings output work }
 {

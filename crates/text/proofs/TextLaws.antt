@@ -81,10 +81,6 @@ module _ {t : List ℕ} {at : ℕ} where
       none (no h) = laid_beyond t at [] (omega arith)
 
   module _ {bytes : List ℕ} {next : ℕ} {t₁ : List ℕ} (l : Laid t at bytes next t₁) where
-    -- memory stays as long as it was
-    pub laid-length : length t₁ ≡ length t
-    laid-length = rw l.memory (length-laid t at bytes)
-
     -- more is laid after it
     pub laid_more : {more : List ℕ} {then : ℕ} {t₂ : List ℕ} → Laid t₁ next more then t₂ → Laid t at (bytes ++ more) then t₂
     laid_more {more} {then} {t₂} m = record {

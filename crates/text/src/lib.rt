@@ -23,11 +23,10 @@ impl<'a> Text<'a> {
         Text { memory, length: 0 }
     }
 
-    // The length of the whole text.
     pub fn length(&self) -> usize
         ensures { result ≡ self.now.length }
     {
-        self.length
+        self.length // That of the whole text.
     }
 
     pub fn append(&mut self, bytes: &[u8])

@@ -1,13 +1,10 @@
 -- `circle_median::circle_median_write` meets its contract: a record's length is a value of 64 bits.
-use Rattle.std.proofs.Common.{◌≡◌, ◌<◌, ◌^◌, ℕ, List, sym, arith, rules}
-use Rattle.refusal.specs.Outcome.{outcome}
+use Rattle.std.proofs.Common.{◌≡◌, ◌<◌, ◌^◌, ℕ, List, sym, arith}
 use Rattle.refusal.specs.Outcome.Outcome.{accepted}
 use Rattle.refusal.proofs.Outcome.{accepted_clear, accepted_value}
 use Rattle.shape.specs.declared.Shape.{Shape}
 use Rattle.record_format.specs.Record.{record_length, write_rules, write_due}
 use Rattle.record_format.proofs.Writable.{writable, record_length_fits}
-use Rattle.circle_median.specs.Answers.{value_of, natural}
-use Rattle.circle_median.proofs.Told.{exported_write}
 use Rattle.circle_median.proofs.circle_median_write.Goals as goal
 
 length_fits : (s : Shape) (readings : List ℕ) (room : ℕ) {n : ℕ} → accepted n ≡ write_due s readings room → n < 2 ^ 63
@@ -22,8 +19,3 @@ length_fits s readings room {n} said =
 
 pub map-requires : goal.map-requires
 map-requires c = λ x e. length_fits _ _ _ (rw e at c.write.ensures.answer)
-
-pub returns : goal.returns
-returns c =
-    let told : c.into.result ≡ value_of (natural (outcome c.write.result)) = search rules in
-    exported_write c.write.ensures told

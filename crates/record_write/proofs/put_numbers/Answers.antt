@@ -1,4 +1,4 @@
-use Rattle.std.proofs.Common.{◌≡◌, ◌+◌, length, take, get_or, arith, length-take, take_all}
+use Rattle.std.proofs.Common.{◌≡◌, ◌+◌, length, take, get_or, arith, length-take}
 use Rattle.lists.proofs.Stores.{stored_none, stored_more}
 use Rattle.record_format.specs.Layout.{numbers_length}
 use Rattle.record_format.specs.Fields.{number, numbers}
@@ -18,6 +18,3 @@ loop-k-preserved c =
     omega (arith, length-numbers (take l.k values), length-take l.k values) in
     rw (numbers_last values l.k (omega arith))
     (stored_more l.invariant (a.at + numbers_length l.k) (number (get_or values l.k 0)) next c.put_number.ensures)
-
-pub returns : goal.returns
-returns c = let l = c.loop-k in rw (take_all l.k c.args.values.now (omega arith)) at l.invariant.is

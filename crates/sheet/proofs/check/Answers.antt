@@ -1,17 +1,7 @@
 -- `sheet::check` meets its contract.
 use Rattle.std.proofs.Common.{rules}
-use Rattle.sheet.proofs.Calls.{handed, long_call, unread_call, roomless_call, passed_call}
+use Rattle.sheet.proofs.Calls.{handed, roomless_call, passed_call}
 use Rattle.sheet.proofs.check.Goals as goal
-
-pub returns-in_err-refuse_if : goal.returns-in_err-refuse_if
-returns-in_err-refuse_if c =
-    let a = c.args in
-    handed (long_call a.bytes.now a.readings a.output a.work c.in_err-refuse_if.ensures) (search rules)
-
-pub returns-in_err-shape : goal.returns-in_err-shape
-returns-in_err-shape c =
-    let a = c.args in
-    handed (unread_call a.bytes.now a.readings a.output a.work c.in_ok-refuse_if.ensures c.in_err-shape.ensures) (search rules)
 
 pub returns-in_err-check_room : goal.returns-in_err-check_room
 returns-in_err-check_room c =

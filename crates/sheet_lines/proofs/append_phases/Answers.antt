@@ -1,6 +1,6 @@
 -- `sheet_lines::append_phases`: one phase more is one word more. Assumes nothing.
 use Rattle.std.proofs.Common.{[], ◌++◌, take, get_or}
-use Rattle.std.proofs.lemmas.List.{take_all, take_more, flat_map_more}
+use Rattle.std.proofs.lemmas.List.{take_more, flat_map_more}
 use Rattle.text.proofs.TextLaws.{appended_none, appended_more}
 use Rattle.std.specs.Prelude.{codes}
 use Rattle.sheet_lines.specs.Lines.{phase_word}
@@ -15,6 +15,3 @@ loop-phase-preserved c =
     let i = c.loop-phase.phase-index in
     rw (take_more row i 0 c.loop-phase-test.true, ← (flat_map_more (λ p. codes " " ++ phase_word p) [] (take i row) (get_or row i 0)))
     (appended_more c.loop-phase.invariant (appended_more c.append.ensures c.append_phase_word.ensures))
-
-pub returns : goal.returns
-returns c = rw (take_all c.loop-phase.phase-index c.args.row.now c.loop-phase-test.false) at c.loop-phase.invariant

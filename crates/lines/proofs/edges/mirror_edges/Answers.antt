@@ -1,5 +1,5 @@
 use native.Mathlib.Omega.{arith}
-use Rattle.lines.proofs.Edging.{edging_none, edging_more, edging_all}
+use Rattle.lines.proofs.Edging.{edging_none, edging_more}
 use Rattle.lines.proofs.edges.mirror_edges.Goals as goal
 
 pub loop-k-init : goal.loop-k-init
@@ -7,6 +7,3 @@ loop-k-init c = edging_none
 
 pub loop-k-preserved : goal.loop-k-preserved
 loop-k-preserved c = edging_more c.loop-k.invariant c.requires.row (omega arith) c.requires.room
-
-pub returns : goal.returns
-returns c = edging_all c.loop-k.invariant (omega arith)

@@ -1,13 +1,12 @@
 -- `record_read::head::check_head` meets its contract: the tests of three fields, of the mask and of the readings buffer, one after the other.
 use Rattle.std.proofs.Common.{◌≡◌, ℕ, List, [], ◌∷◌, ◌++◌, rules}
 use Rattle.refusal.specs.Outcome.{Outcome, Rule, first_due}
-use Rattle.refusal.proofs.Outcome.{handed_on, passed_first, handed_alone, passed_alone, passed_clear, clear_join}
+use Rattle.refusal.proofs.Outcome.{handed_on, passed_first, handed_alone}
 use Rattle.shape.specs.Rules.{mask_rules, area, buffer_rule}
 use Rattle.record_format.specs.declared.Tag.TheVariants as tags
 use Rattle.record_format.specs.Layout.{mask_field_at}
 use Rattle.record_format.specs.Reading.{shape_in, mask_due, field_rules, cycle_field_rules, size_field_rules, mask_value_rules}
 use Rattle.record_read.specs.Stages.{head_rules}
-use Rattle.record_read.proofs.Stages.{headed}
 use Rattle.record_read.proofs.head.check_head.Goals as goal
 use Rattle.record_read.proofs.head.check_head.Goals.{In_ok-check_mask_field}
 
@@ -34,11 +33,6 @@ values-left c rest =
     (passed_first (size_field_rules b) s (from_mask b c.args.room) c.in_ok-check_size_field.ensures
     (passed_first (mask b) s (mask_value_rules s c.args.room) c.in_ok-check_mask_field.ensures rest))
 
-pub returns-in_err-check_cycle_field : goal.returns-in_err-check_cycle_field
-returns-in_err-check_cycle_field c =
-    let b = c.args.bytes.now in
-    handed_on (cycle_field_rules b) (shape_in b) (from_size b c.args.room) c.in_err-check_cycle_field.ensures (search rules)
-
 pub returns-in_err-check_size_field : goal.returns-in_err-check_size_field
 returns-in_err-check_size_field c =
     let b = c.args.bytes.now in
@@ -52,13 +46,6 @@ returns-in_err-check_mask_field c =
     passed_first (cycle_field_rules b) s (from_size b c.args.room) c.in_ok-check_cycle_field.ensures
     (passed_first (size_field_rules b) s (from_mask b c.args.room) c.in_ok-check_size_field.ensures
     (handed_on (mask b) s (mask_value_rules s c.args.room) c.in_err-check_mask_field.ensures (search rules)))
-
-pub shape_in-shape-requires : goal.shape_in-shape-requires
-shape_in-shape-requires c =
-    let b = c.args.bytes.now in
-    (headed b (clear_join (cycle_field_rules b) (size_field_rules b ++ mask b) (passed_clear (cycle_field_rules b) c.in_ok-check_cycle_field.ensures)
-    (clear_join (size_field_rules b) (mask b) (passed_clear (size_field_rules b) c.in_ok-check_size_field.ensures)
-    (passed_clear (mask b) c.in_ok-check_mask_field.ensures)))).whole
 
 pub returns-in_err-check_mask : goal.returns-in_err-check_mask
 returns-in_err-check_mask c =
@@ -75,12 +62,3 @@ returns-in_err-check_buffer c =
     values-left (goal.at.returns-in_err-check_buffer c).In_ok-check_mask_field
     (passed_first (mask_rules s.mask_rows s.mask_columns) s (buffer_rule (area s) c.args.room ∷ []) sides
     (handed_alone (buffer_rule (area s) c.args.room ∷ []) s buffer (search rules)))
-
-pub returns : goal.returns
-returns c =
-    let s = shape_in c.args.bytes.now in
-    let sides = rw c.shape_in-shape.ensures at c.in_ok-check_mask.ensures in
-    let buffer = rw (c.area-need.ensures, c.shape_in-shape.ensures) at c.in_ok-check_buffer.ensures in
-    values-left (goal.at.returns c).In_ok-check_mask_field
-    (passed_first (mask_rules s.mask_rows s.mask_columns) s (buffer_rule (area s) c.args.room ∷ []) sides
-    (rw c.shape_in-shape.ensures (passed_alone (buffer_rule (area s) c.args.room ∷ []) s buffer)))

@@ -1,9 +1,0 @@
--- `lines::centres::heard_or` meets its contract. Assumes nothing.
-use Rattle.cycle.proofs.SilenceLaws.{unheard, not_silent}
-use Rattle.lines.proofs.centres.heard_or.Goals as goal
-
-pub returns-then-centre-eq-SILENT : goal.returns-then-centre-eq-SILENT
-returns-then-centre-eq-SILENT c = rw (unheard _ c.if-centre-eq-SILENT.true)
-
-pub returns-else-centre-eq-SILENT : goal.returns-else-centre-eq-SILENT
-returns-else-centre-eq-SILENT c = rw (not_silent _ c.if-centre-eq-SILENT.false)
