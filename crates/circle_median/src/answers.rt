@@ -112,7 +112,7 @@ impl From<Result<Shape, Refusal>> for RecordAnswer {
     }
 }
 
-// The length of a record as a value.
+// The length of a record as a value; a function, so that the bound of the cast has a place.
 pub fn length_value(length: usize) -> i64
     requires { length < 2 ^ 63 }
     ensures { result ≡ pos length }

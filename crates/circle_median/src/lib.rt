@@ -15,7 +15,8 @@ use answers::{Answer, RecordAnswer, ValueAnswer, WindowAnswer, length_value, win
 use live::PLACES;
 use shape::Shape;
 
-// The level engine: cycles up to 4,096, and C·(N + 1) numbers of work memory.
+// The level engine: cycles up to 4,096, and C·(N + 1) numbers of work memory. C has a name for each engine, and gives
+// the numbers of a shape one by one.
 #[unsafe(no_mangle)]
 pub extern "C" fn circle_median_level(
     cycle: u32,

@@ -9,7 +9,8 @@ ghost use Rattle.cycle.specs.Gaps.{way_on, latest};
 
 use crate::list::{LISTED_CYCLE, entry_at};
 
-// The reading of a wake that was not heard; no cycle has it as a tick.
+// The reading of a wake that was not heard; no cycle has it as a tick. A number and no `Option`, since images, records and
+// C's arrays hold it so. What stands in for it somewhere is told there by a function of one `if`, named after that.
 pub const SILENT: u16 = 65535;
 
 // The distance of two ticks: by the list on the list's cycle, and else by the formula.

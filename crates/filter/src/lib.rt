@@ -20,6 +20,7 @@ use refusal::limits::{LEVEL_CYCLE, LONGEST_CYCLE};
 use shape::Shape;
 use std::ops::Range;
 
+// The two engines are told apart in this type's methods, and `sheet` chooses one by the record.
 #[derive(Clone, Copy, Debug, PartialEq, Eq)]
 pub enum Engine {
     Level,
@@ -89,7 +90,8 @@ pub fn run(
     Ok(())
 }
 
-// The level engine: cycles up to 4,096, and C·(N + 1) numbers of work memory.
+// The level engine: cycles up to 4,096, and C·(N + 1) numbers of work memory. The paper has a call for each engine, and
+// `run` is both.
 pub fn level(
     shape: Shape,
     rows: Range<u32>,

@@ -41,7 +41,8 @@ pub enum Live {
     Silent,
 }
 
-// What a new window is answered, and the window.
+// What a new window is answered, and the window. A pair, since a call that is refused hands back a window too, one that
+// every push refuses.
 #[derive(Clone, Copy, Debug, PartialEq, Eq)]
 pub struct Made {
     pub told: Result<(), Refusal>,

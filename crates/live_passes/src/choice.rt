@@ -54,7 +54,7 @@ fn key_unless_silent(q: u16, key: u32) -> u32
     if q == SILENT { NO_SUM } else { key }
 }
 
-// The key of a reading with its sum.
+// The key of a reading with its sum: both in one number, so that a pass compares them at once.
 #[tactic(auto, unfolding(crate::specs::Passes::key_of))]
 fn key_of(cycle: u16, centre: u16, q: u16, sum: u16) -> u32
     ensures { result ≡ key_of cycle centre q sum }

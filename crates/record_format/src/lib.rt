@@ -1,5 +1,6 @@
-// Numbers and fields as bytes: each number two bytes, high byte first. Offsets count from the start of the
-// record, as the place of a refusal does, so a function takes an offset and not the part of the bytes behind it.
+// Numbers and fields as bytes: each number two bytes, high byte first. Offsets count from the start of the record, as the
+// paper's places of fields do, here and in reader and writer: so a function takes an offset, and not the part of the bytes
+// behind it.
 // Internal: the tests are the caller's.
 #![tactic(auto)]
 

@@ -52,7 +52,7 @@ pub fn check_write(shape: Shape, readings: &[u16], room: usize) -> Result<(), Re
     check_readings(shape.cycle, readings)
 }
 
-// Writes numbers, one after the other.
+// Writes numbers, one after the other. By offsets: of a slice taken apart by `as_chunks_mut` no law says what it ends as.
 fn put_numbers(bytes: &mut [u8], at: usize, values: &[u16])
     requires { at + numbers_length (length values.now) ≤ length bytes.old }
     ensures { bytes.new ≡ sets bytes.old at (numbers values.now) }

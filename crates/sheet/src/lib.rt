@@ -15,7 +15,8 @@ use shape::Shape;
 pub use sheet_lines::MOST_TEXT;
 use sheet_lines::{write_lines, write_refusal};
 
-// The length is that of the whole text. Where it is above that of the text memory, the text was cut.
+// The length is that of the whole text. Where it is above that of the text memory, the text was cut. It stands beside
+// the result, since the line of a refusal has a length too.
 #[derive(Clone, Copy, Debug, PartialEq, Eq)]
 pub struct SheetAnswer {
     pub length: usize,

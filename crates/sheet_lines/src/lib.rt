@@ -21,7 +21,7 @@ use text::Text;
 // No text of a record that the sheet takes is longer.
 pub const MOST_TEXT: usize = 65536;
 
-// A word and a number after it.
+// A word and a number after it. By `append` and not `write!`, of which no law says that it is `Ok`: a text has room for all.
 fn append_counted<I: Integer>(text: &mut Text, word: &[u8], n: I)
     ensures { Appended text.old (word.now ++ I.text n) text.new }
 {

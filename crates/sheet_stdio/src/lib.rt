@@ -34,7 +34,8 @@ pub fn print_sheet(
     answer
 }
 
-// Fills memory from a reader, until it is full or the reader gives no more; how many bytes were read.
+// Fills memory from a reader, until it is full or the reader gives no more; how many bytes were read. A `while`, since its
+// step is what a read gave, and fixed memory, so not `read_to_end`.
 fn read_full(reader: &mut impl Read, bytes: &mut [u8]) -> usize
     ensures { result ≤ length bytes.new }
 {
