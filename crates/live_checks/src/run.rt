@@ -5,6 +5,7 @@ use crate::report::Report;
 use crate::windows::{Call, garbage};
 use live::LiveWindow;
 use runs::cases;
+use runs::cases::MOST_NUMBERS;
 use std::alloc::Global;
 use std::io;
 use std::io::Write;
@@ -94,22 +95,22 @@ impl Run {
         &mut self,
         report: &mut Report<W>,
         alloc: Global,
-        text: &str,
+        text: &[u8],
     ) -> io::Result<()> {
-        for reading in cases::readings(alloc, text)?.iter() {
+        for reading in cases::readings(alloc, text, MOST_NUMBERS)?.iter() {
             self.push(report, *reading)?;
         }
         Ok(())
     }
 
-    // Pushes the readings of a text, in which `reset` stands for a reset.
+    // Pushes the readings of a text, with a reset at each `r`, the first letter of the word.
     pub fn play<W: Write>(
         &mut self,
         report: &mut Report<W>,
         alloc: Global,
-        text: &str,
+        text: &[u8],
     ) -> io::Result<()> {
-        for (k, readings) in text.split("reset").enumerate() {
+        for (k, readings) in text.split(|byte| *byte == b'r').enumerate() {
             if k > 0 {
                 self.reset(report)?;
             }

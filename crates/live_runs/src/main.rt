@@ -16,6 +16,8 @@ use case::Case;
 use live_checks::report::Report;
 use live_checks::run::Run;
 use live_checks::windows::Members;
+use runs::cases::MOST_NUMBERS;
+use runs::input::Lines;
 use runs::{cases, input};
 use std::alloc::Global;
 use std::io;
@@ -37,7 +39,7 @@ fn run_case<W: Write>(report: &mut Report<W>, alloc: Global, case: &Case) -> io:
             length,
             wakes,
         } => {
-            let row = cases::readings(alloc, wakes)?;
+            let row = cases::readings(alloc, wakes, MOST_NUMBERS)?;
             rows::run(report, alloc, *cycle, *length, &row)
         }
         Case::Forged { window, wakes } => {
@@ -53,10 +55,11 @@ fn run_case<W: Write>(report: &mut Report<W>, alloc: Global, case: &Case) -> io:
 
 fn run(rt: &(impl Input + Print + AllocGlobal)) -> io::Result<()> {
     let alloc = rt.alloc();
-    let cases = input::text(rt)?;
+    let cases = input::bytes(rt);
     let mut report = Report::new(BufWriter::new(alloc, io::writer(rt))?);
-    for line in cases.lines() {
-        write!(report.out, "{line} ->")?;
+    for line in Lines(&cases) {
+        report.out.write_all(line)?;
+        write!(report.out, " ->")?;
         match Case::parse(alloc, line)? {
             Some(case) => run_case(&mut report, alloc, &case)?,
             None => write!(report.out, " NO CASE")?,
