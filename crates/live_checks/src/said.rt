@@ -23,7 +23,7 @@ const FILLING: u16 = 60000;
 const NO_ANSWER: u16 = 60001;
 
 impl Said {
-    pub fn is_refused(self) -> bool {
+    pub(crate) fn is_refused(self) -> bool {
         matches!(self, Said::Refused(_))
     }
 }

@@ -15,6 +15,7 @@ mod rows;
 use case::Case;
 use live_checks::report::Report;
 use live_checks::run::Run;
+use live_checks::tally::Tally;
 use live_checks::windows::Members;
 use runs::cases::MOST_NUMBERS;
 use runs::input::Lines;
@@ -22,6 +23,35 @@ use runs::{cases, input};
 use std::alloc::Global;
 use std::io;
 use std::io::{BufWriter, Write};
+
+// Pushes the readings of a text.
+fn push_all<W: Write>(
+    report: &mut Report<W>,
+    alloc: Global,
+    run: &mut Run,
+    text: &[u8],
+) -> io::Result<()> {
+    for reading in cases::readings(alloc, text, MOST_NUMBERS)?.iter() {
+        run.push(report, *reading)?;
+    }
+    Ok(())
+}
+
+// Pushes the readings of a text, with a reset at each `r`, the first letter of the word.
+fn play<W: Write>(
+    report: &mut Report<W>,
+    alloc: Global,
+    run: &mut Run,
+    text: &[u8],
+) -> io::Result<()> {
+    for (k, readings) in text.split(|byte| *byte == b'r').enumerate() {
+        if k > 0 {
+            run.reset(report)?;
+        }
+        push_all(report, alloc, run, readings)?;
+    }
+    Ok(())
+}
 
 fn run_case<W: Write>(report: &mut Report<W>, alloc: Global, case: &Case) -> io::Result<()> {
     match case {
@@ -31,7 +61,7 @@ fn run_case<W: Write>(report: &mut Report<W>, alloc: Global, case: &Case) -> io:
             wakes,
         } => {
             let mut run = Run::begin(report, *cycle, *length)?;
-            run.play(report, alloc, wakes)?;
+            play(report, alloc, &mut run, wakes)?;
             write!(report.out, "; {}", Members(&run.window))
         }
         Case::Row {
@@ -48,7 +78,7 @@ fn run_case<W: Write>(report: &mut Report<W>, alloc: Global, case: &Case) -> io:
                 ours: false,
             };
             write!(report.out, " {}", Members(&run.window))?;
-            run.play(report, alloc, wakes)
+            play(report, alloc, &mut run, wakes)
         }
     }
 }
@@ -56,7 +86,10 @@ fn run_case<W: Write>(report: &mut Report<W>, alloc: Global, case: &Case) -> io:
 fn run(rt: &(impl Input + Print + AllocGlobal)) -> io::Result<()> {
     let alloc = rt.alloc();
     let cases = input::bytes(rt);
-    let mut report = Report::new(BufWriter::new(alloc, io::writer(rt))?);
+    let mut report = Report {
+        out: BufWriter::new(alloc, io::writer(rt))?,
+        tally: Tally::default(),
+    };
     for line in Lines(&cases) {
         report.out.write_all(line)?;
         write!(report.out, " ->")?;
@@ -66,7 +99,9 @@ fn run(rt: &(impl Input + Print + AllocGlobal)) -> io::Result<()> {
         }
         writeln!(report.out)?;
     }
-    report.end()
+    let tally = report.tally;
+    write!(report.out, "{tally}")?;
+    report.out.flush()
 }
 
 fn main(rt: HostRuntime) {
