@@ -1,14 +1,18 @@
 // A case of the filter, and the memory that is lent to a call.
 use runs::cases;
+use runs::cases::DECIMAL;
 use runs::print::{Readings, Sizes};
 use shape::Shape;
 use std::alloc::{AllocError, Global};
 use std::fmt;
 use std::ops::Range;
 
+// The most readings of an image.
+const MOST_IMAGE: usize = 256;
+
 #[derive(Debug, Drop)]
 pub struct Case<'a> {
-    pub name: &'a str,
+    pub name: &'a [u8],
     pub shape: Shape,
     pub rows: Range<u32>,
     // The lengths of the output and of the work memory.
@@ -18,36 +22,28 @@ pub struct Case<'a> {
 }
 
 impl<'a> Case<'a> {
-    // The case of a line, if it is one.
-    pub fn parse(alloc: Global, line: &'a str) -> Result<Option<Case<'a>>, AllocError> {
-        let Some((name, numbers)) = line.split_once(':') else {
-            return Ok(None);
-        };
-        let Some((numbers, image)) = numbers.split_once(':') else {
-            return Ok(None);
-        };
-        let sizes = cases::sizes(alloc, numbers)?;
-        let image = cases::readings(alloc, image)?;
-        let (Some(shape), Some([first, end, output, work])) = (
-            cases::shape(&sizes),
-            sizes.get(5..9),
-        ) else {
-            return Ok(None);
-        };
-        Ok(Some(Case {
+    // The case of a line. A number that it lacks is 0.
+    pub fn parse(alloc: Global, line: &'a [u8]) -> Result<Case<'a>, AllocError> {
+        let (name, rest) = cases::split_once(line, b':');
+        let (numbers, image) = cases::split_once(rest, b':');
+        let mut sizes = [0; 9];
+        cases::numbers(numbers, DECIMAL, &mut sizes);
+        let [.., first, end, output, work] = sizes;
+        Ok(Case {
             name,
-            shape,
-            rows: *first..*end,
-            output: *output as usize,
-            work: *work as usize,
-            image,
-        }))
+            shape: cases::shape(&sizes),
+            rows: first..end,
+            output: output as usize,
+            work: work as usize,
+            image: cases::readings(alloc, image, MOST_IMAGE)?,
+        })
     }
 }
 
+// The case as it was understood, but for its name.
 impl<'a> fmt::Display for Case<'a> {
     fn fmt<W: fmt::Write>(&self, f: &mut fmt::Formatter<W>) -> fmt::Result {
-        write!(f, "{}: {} ", self.name, Sizes(self.shape))?;
+        write!(f, " {} ", Sizes(self.shape))?;
         write!(f, "range {} {} ", self.rows.start, self.rows.end)?;
         write!(f, "output {} work {}:", self.output, self.work)?;
         write!(f, "{}", Readings(&self.image))

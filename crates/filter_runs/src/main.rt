@@ -13,13 +13,16 @@ mod case;
 use case::{Case, Lent};
 use filter::Engine;
 use runs::input;
+use runs::input::Lines;
 use runs::print::Answer;
 use std::alloc::Global;
 use std::io;
 use std::io::{BufWriter, Write};
 
-// The numbers of work memory in a call with memory to spare.
-const SPARE_WORK: usize = 20736;
+// The most numbers of an output and of a work memory.
+const MOST_OUTPUT: usize = 128;
+
+const MOST_WORK: usize = 20736;
 
 // Runs an engine on a case with so many numbers of work memory.
 fn call(
@@ -29,6 +32,9 @@ fn call(
     engine: Engine,
     work: usize,
 ) -> io::Result<()> {
+    if MOST_OUTPUT < case.output || MOST_WORK < work {
+        return writeln!(out, "NO ROOM");
+    }
     let mut lent = Lent::new(alloc, case.output, work)?;
     let answer = filter::run(
         engine,
@@ -42,25 +48,25 @@ fn call(
 }
 
 fn run_case(out: &mut impl Write, alloc: Global, case: &Case) -> io::Result<()> {
-    let name = case.name;
-    writeln!(out, "{case}")?;
-    write!(out, "{name}, level: ")?;
+    out.write_all(case.name)?;
+    writeln!(out, ":{case}")?;
+    out.write_all(case.name)?;
+    write!(out, ", level: ")?;
     call(out, alloc, case, Engine::Level, case.work)?;
-    write!(out, "{name}, reading: ")?;
+    out.write_all(case.name)?;
+    write!(out, ", reading: ")?;
     call(out, alloc, case, Engine::Reading, case.work)?;
-    write!(out, "{name}, memory to spare: ")?;
-    call(out, alloc, case, Engine::Reading, SPARE_WORK)
+    out.write_all(case.name)?;
+    write!(out, ", memory to spare: ")?;
+    call(out, alloc, case, Engine::Reading, MOST_WORK)
 }
 
 fn run(rt: &(impl Input + Print + AllocGlobal)) -> io::Result<()> {
     let alloc = rt.alloc();
-    let cases = input::text(rt)?;
+    let cases = input::bytes(rt);
     let mut out = BufWriter::new(alloc, io::writer(rt))?;
-    for line in cases.lines() {
-        match Case::parse(alloc, line)? {
-            Some(case) => run_case(&mut out, alloc, &case)?,
-            None => writeln!(out, "{line} -> NO CASE")?,
-        }
+    for line in Lines(&cases) {
+        run_case(&mut out, alloc, &Case::parse(alloc, line)?)?;
     }
     out.flush()
 }

@@ -5,28 +5,37 @@ ghost use Rattle.std.specs.Iterator.{at_most};
 use filter::Engine;
 use refusal::Refusal;
 use refusal::limits::LEVEL_CYCLE;
+use runs::cases::nth;
 use shape::Shape;
+use std::alloc::{AllocError, Global};
+use std::array;
 use std::ops::Range;
+
+// The numbers of a case before its readings.
+const HEAD: usize = 7;
 
 #[derive(Debug, Drop)]
 pub struct Case<'a> {
     pub shape: Shape,
     pub rows: Range<u32>,
-    pub readings: &'a [u16],
-    pub phases: &'a [u16],
+    // How many readings the case has, and phases behind them.
+    pub area: usize,
+    pub range: usize,
+    // The numbers from the first reading on, also those of the cases behind it.
+    pub numbers: &'a [u16],
 }
 
-// What is due of a call: its answer, where it writes its phases, and how many work numbers it makes 0.
+// What is due of a call: its answer, where it writes how many phases, and how many work numbers it makes 0.
 #[derive(Debug, Drop)]
-pub struct Due<'a> {
+pub struct Due {
     pub answer: Result<(), Refusal>,
     pub rows: usize,
     pub start: usize,
-    pub phases: &'a [u16],
+    pub phases: usize,
     pub need: usize,
 }
 
-// The numbers of the cases that are left; the cases end where there is no whole one.
+// The numbers of the cases that are left. Where the last one is cut short, 0 stands for what is missing.
 #[derive(Clone, Copy, Debug)]
 pub struct Cases<'a>(pub &'a [u16]);
 
@@ -36,40 +45,42 @@ impl<'a> Iterator for Cases<'a> {
     ghost remaining = { λ cases. at_most (length cases.0.now) };
 
     fn next(&mut self) -> Option<Case<'a>> {
-        let [
-            cycle,
-            rows,
-            columns,
-            mask_rows,
-            mask_columns,
-            first,
-            end,
-            body @ ..,
-        ] = self.0
-        else {
+        if self.0.is_empty() {
             return None;
-        };
-        let width = usize::from(*columns);
-        let (readings, body) = body.split_at_checked(usize::from(*rows) * width)?;
-        let range = usize::from(end.saturating_sub(*first));
-        let (phases, rest) = body.split_at_checked(range * width)?;
+        }
+        let (head, numbers) = self.0.split_at(self.0.len().min(HEAD));
+        let sizes: [u16; HEAD] = array::from_fn(|k| nth(head, k));
+        let [cycle, rows, columns, mask_rows, mask_columns, first, end] = sizes;
+        let area = usize::from(rows) * usize::from(columns);
+        let range = usize::from(end.saturating_sub(first)) * usize::from(columns);
+        let (_, rest) = numbers.split_at(numbers.len().min(area + range));
         self.0 = rest;
         Some(Case {
             shape: Shape {
-                cycle: u32::from(*cycle),
-                rows: u32::from(*rows),
-                columns: u32::from(*columns),
-                mask_rows: u32::from(*mask_rows),
-                mask_columns: u32::from(*mask_columns),
+                cycle: u32::from(cycle),
+                rows: u32::from(rows),
+                columns: u32::from(columns),
+                mask_rows: u32::from(mask_rows),
+                mask_columns: u32::from(mask_columns),
             },
-            rows: u32::from(*first)..u32::from(*end),
-            readings,
-            phases,
+            rows: u32::from(first)..u32::from(end),
+            area,
+            range,
+            numbers,
         })
     }
 }
 
 impl<'a> Case<'a> {
+    pub fn readings(&self, alloc: Global) -> Result<Vec<u16>, AllocError> {
+        (0..self.area).map(|k| nth(self.numbers, k)).collect(alloc)
+    }
+
+    // The phase at a place of the range.
+    pub fn phase(&self, k: usize) -> u16 {
+        nth(self.numbers, self.area.saturating_add(k))
+    }
+
     // The numbers of work memory that an engine needs.
     fn need(&self, engine: Engine) -> usize {
         let shape = self.shape;
@@ -80,13 +91,13 @@ impl<'a> Case<'a> {
         blocks.saturating_mul(shape.columns as usize + 1)
     }
 
-    pub fn due(&self, engine: Engine) -> Due<'a> {
+    pub fn due(&self, engine: Engine) -> Due {
         if engine == Engine::Level && LEVEL_CYCLE < self.shape.cycle {
             return Due {
                 answer: Err(Refusal::Cycle),
                 rows: 0,
                 start: 0,
-                phases: &[],
+                phases: 0,
                 need: 0,
             };
         }
@@ -94,7 +105,7 @@ impl<'a> Case<'a> {
             answer: Ok(()),
             rows: self.rows.end.saturating_sub(self.rows.start) as usize,
             start: self.rows.start as usize * self.shape.columns as usize,
-            phases: self.phases,
+            phases: self.range,
             need: self.need(engine),
         }
     }

@@ -1,7 +1,5 @@
 // The memory that is lent to a call.
-ghost use Rattle.std.specs.Prelude.{◌<◌, ◌≤◌};
-
-use crate::case::Due;
+use crate::case::{Case, Due};
 use std::alloc::{AllocError, Global};
 
 // The numbers of the output and of the work memory.
@@ -9,25 +7,20 @@ const OUTPUT: usize = 512;
 
 const WORK: usize = 168000;
 
-// Two primes, the largest ones of 16 and of 32 bits.
-const LARGEST_16: usize = 65521;
-
-const LARGEST_32: usize = 4294967291;
-
 #[derive(Debug, Drop)]
 pub struct Memory {
     pub output: Vec<u16>,
     pub work: Vec<u32>,
 }
 
-// Garbage, of which no number is 0. A call's places have different ones, if they are no more than the prime.
-fn garbage<const PRIME: usize>(place: usize, call: usize) -> usize
-    requires { 0 < PRIME }
-    ensures { result ≤ PRIME }
-{
-    let place = place.wrapping_mul(2654435761);
-    let call = call.wrapping_mul(40503);
-    place.wrapping_add(call) % PRIME + 1
+// Garbage for the output: never 0, and another at each of its places. 65,521 is prime.
+fn output_garbage(place: usize, call: usize) -> u16 {
+    ((place % 65521 * 40503 + call % 65521 * 9973) % 65521 + 1) as u16
+}
+
+// Garbage for the work memory: never 0, and another at each of its places. 4,294,967,291 is prime.
+fn work_garbage(place: usize, call: usize) -> u32 {
+    ((place % 4294967291 * 2654435761 + call % 4294967291 * 40503) % 4294967291 + 1) as u32
 }
 
 impl Memory {
@@ -35,20 +28,25 @@ impl Memory {
     pub fn garbage(alloc: Global, call: usize) -> Result<Memory, AllocError> {
         Ok(Memory {
             output: (0..OUTPUT)
-                .map(|place| garbage::<LARGEST_16>(place, call) as u16)
+                .map(|place| output_garbage(place, call))
                 .collect(alloc)?,
             work: (0..WORK)
-                .map(|place| garbage::<LARGEST_32>(place, call) as u32)
+                .map(|place| work_garbage(place, call))
                 .collect(alloc)?,
         })
     }
 
     // This memory after a call of which so much is due.
-    pub fn after(&self, due: &Due) -> Result<Memory, AllocError> {
+    pub fn after(&self, case: &Case, due: &Due) -> Result<Memory, AllocError> {
         let mut output = self.output.clone()?;
         let mut work = self.work.clone()?;
-        for (x, phase) in output.iter_mut().skip(due.start).zip(due.phases) {
-            *x = *phase;
+        for (k, x) in output
+            .iter_mut()
+            .skip(due.start)
+            .take(due.phases)
+            .enumerate()
+        {
+            *x = case.phase(k);
         }
         for x in work.iter_mut().take(due.need) {
             *x = 0;

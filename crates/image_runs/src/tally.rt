@@ -2,6 +2,7 @@
 use crate::case::{Case, Due};
 use crate::lent::Memory;
 use refusal::Refusal;
+use runs::cases::nth;
 use std::fmt;
 
 #[derive(Clone, Copy, Debug, Default)]
@@ -44,15 +45,12 @@ impl Tally {
 
     // Counts the numbers of the output beside those that are due.
     pub fn add_output(&mut self, case: &Case, due: &Due, output: &[u16], expected: &[u16]) {
-        let phases = due.phases.len();
-        let range = output
-            .iter()
-            .zip(case.readings)
-            .skip(due.start)
-            .take(phases);
+        let phases = due.phases;
+        let range = output.iter().enumerate().skip(due.start).take(phases);
+        let moved = range.filter(|(place, x)| **x != nth(case.numbers, *place));
         add(&mut self.rows, due.rows);
         add(&mut self.phases, phases);
-        add(&mut self.moved, range.filter(|(x, y)| x != y).count());
+        add(&mut self.moved, moved.count());
         add(&mut self.kept, output.len().saturating_sub(phases));
         add(&mut self.differences, differences(output, expected));
     }

@@ -10,27 +10,13 @@ pub struct Report<W> {
 }
 
 impl<W: Write> Report<W> {
-    pub fn new(out: W) -> Report<W> {
-        Report {
-            out,
-            tally: Tally::default(),
-        }
-    }
-
     // Counts a comparison, and prints a word if it found a difference.
-    pub fn judge(&mut self, so: bool, word: &str) -> io::Result<()> {
+    pub(crate) fn judge(&mut self, so: bool, word: &str) -> io::Result<()> {
         self.tally.test(so);
         if so {
             Ok(())
         } else {
             write!(self.out, " {word}")
         }
-    }
-
-    // Prints what was counted, at last.
-    pub fn end(&mut self) -> io::Result<()> {
-        let tally = self.tally;
-        write!(self.out, "{tally}")?;
-        self.out.flush()
     }
 }

@@ -1,11 +1,11 @@
 // A window with readings and resets, one after the other: each call by value and in place, and the answer printed.
 //
 // `kept` after a refusal says that the window is as it was in each of its members. Words in capitals are differences.
+ghost use Rattle.std.specs.Prelude.{◌≡◌, IfOk, IsTrue};
+
 use crate::report::Report;
 use crate::windows::{Call, garbage};
 use live::LiveWindow;
-use runs::cases;
-use std::alloc::Global;
 use std::io;
 use std::io::Write;
 
@@ -18,7 +18,9 @@ pub struct Run {
 
 impl Run {
     // A new window of C and T. In place it is made of other numbers, which a refusal keeps.
-    pub fn begin<W: Write>(report: &mut Report<W>, cycle: u32, length: u32) -> io::Result<Run> {
+    pub fn begin<W: Write>(report: &mut Report<W>, cycle: u32, length: u32) -> io::Result<Run>
+        ensures { IfOk result (λ run. IsTrue run.ours) }
+    {
         let before = Run {
             window: garbage(cycle, length),
             ours: true,
@@ -63,7 +65,10 @@ impl Run {
         report.judge(self.agree(call, beside), "NOT SO IN PLACE")
     }
 
-    pub fn reset<W: Write>(&mut self, report: &mut Report<W>) -> io::Result<()> {
+    // Resets the window: one that the calls made stays one of theirs.
+    pub fn reset<W: Write>(&mut self, report: &mut Report<W>) -> io::Result<()>
+        ensures { IsTrue self.old.ours → IsTrue self.new.ours }
+    {
         let before = Run {
             window: self.window,
             ours: true,
@@ -80,41 +85,15 @@ impl Run {
         Ok(())
     }
 
-    pub fn push<W: Write>(&mut self, report: &mut Report<W>, reading: u16) -> io::Result<()> {
+    // Pushes a reading, which leaves open who made the window.
+    pub fn push<W: Write>(&mut self, report: &mut Report<W>, reading: u16) -> io::Result<()>
+        ensures { self.new.ours ≡ self.old.ours }
+    {
         let call = Call::push(self.window, reading).promised(self.ours);
         let beside = Call::push_in(self.window, reading).promised(self.ours);
         self.print(report, &call, &beside)?;
         report.tally.push(call.said.is_refused());
         self.window = call.window;
-        Ok(())
-    }
-
-    // Pushes the readings of a text.
-    fn push_all<W: Write>(
-        &mut self,
-        report: &mut Report<W>,
-        alloc: Global,
-        text: &str,
-    ) -> io::Result<()> {
-        for reading in cases::readings(alloc, text)?.iter() {
-            self.push(report, *reading)?;
-        }
-        Ok(())
-    }
-
-    // Pushes the readings of a text, in which `reset` stands for a reset.
-    pub fn play<W: Write>(
-        &mut self,
-        report: &mut Report<W>,
-        alloc: Global,
-        text: &str,
-    ) -> io::Result<()> {
-        for (k, readings) in text.split("reset").enumerate() {
-            if k > 0 {
-                self.reset(report)?;
-            }
-            self.push_all(report, alloc, readings)?;
-        }
         Ok(())
     }
 }

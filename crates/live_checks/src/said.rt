@@ -13,10 +13,17 @@ pub enum Said {
     // An answer, of which nothing more is promised.
     Answered,
     Refused(Refusal),
+    // The same of a reading of a row, for whatever reason.
+    NoAnswer,
 }
 
+// Numbers that no tick of a live window is: they stand for answers in the place of phases.
+const FILLING: u16 = 60000;
+
+const NO_ANSWER: u16 = 60001;
+
 impl Said {
-    pub fn is_refused(self) -> bool {
+    pub(crate) fn is_refused(self) -> bool {
         matches!(self, Said::Refused(_))
     }
 }
@@ -30,24 +37,33 @@ impl From<Result<(), Refusal>> for Said {
     }
 }
 
+impl From<Live> for Said {
+    fn from(answer: Live) -> Said {
+        match answer {
+            Live::Filling => Said::Filling,
+            Live::Phase(phase) => Said::Phase(phase),
+            Live::Silent => Said::Silent,
+        }
+    }
+}
+
 impl From<Result<Live, Refusal>> for Said {
     fn from(told: Result<Live, Refusal>) -> Said {
         match told {
-            Ok(Live::Filling) => Said::Filling,
-            Ok(Live::Phase(phase)) => Said::Phase(phase),
-            Ok(Live::Silent) => Said::Silent,
+            Ok(answer) => answer.into(),
             Err(refusal) => Said::Refused(refusal),
         }
     }
 }
 
-// A phase of an image, or a number that stands in a window.
+// A number of an image or of a window.
 impl From<u16> for Said {
-    fn from(phase: u16) -> Said {
-        if phase == SILENT {
-            Said::Silent
-        } else {
-            Said::Phase(phase)
+    fn from(number: u16) -> Said {
+        match number {
+            FILLING => Said::Filling,
+            NO_ANSWER => Said::NoAnswer,
+            SILENT => Said::Silent,
+            phase => Said::Phase(phase),
         }
     }
 }
@@ -61,6 +77,7 @@ impl fmt::Display for Said {
             Said::Silent => write!(f, "silent"),
             Said::Answered => write!(f, "answered"),
             Said::Refused(refusal) => write!(f, "{refusal}"),
+            Said::NoAnswer => write!(f, "NO ANSWER"),
         }
     }
 }

@@ -5,13 +5,13 @@ use std::fmt;
 
 // What a call was answered, and the window after it.
 #[derive(Clone, Copy, Debug, PartialEq, Eq)]
-pub struct Call {
+pub(crate) struct Call {
     pub said: Said,
     pub window: LiveWindow,
 }
 
 impl Call {
-    pub fn fresh(cycle: u32, length: u32) -> Call {
+    pub(crate) fn fresh(cycle: u32, length: u32) -> Call {
         let made = LiveWindow::fresh(cycle, length);
         Call {
             said: made.told.into(),
@@ -20,7 +20,7 @@ impl Call {
     }
 
     // A new window, or a reset, in place.
-    pub fn fresh_in(before: LiveWindow) -> Call {
+    pub(crate) fn fresh_in(before: LiveWindow) -> Call {
         let mut window = before;
         let told = live::fresh_in(
             before.cycle,
@@ -37,7 +37,7 @@ impl Call {
         }
     }
 
-    pub fn reset(before: LiveWindow) -> Call {
+    pub(crate) fn reset(before: LiveWindow) -> Call {
         let mut window = before;
         let told = window.reset();
         Call {
@@ -46,7 +46,7 @@ impl Call {
         }
     }
 
-    pub fn push(before: LiveWindow, reading: u16) -> Call {
+    pub(crate) fn push(before: LiveWindow, reading: u16) -> Call {
         let mut window = before;
         let told = window.push(reading);
         Call {
@@ -55,7 +55,7 @@ impl Call {
         }
     }
 
-    pub fn push_in(before: LiveWindow, reading: u16) -> Call {
+    pub(crate) fn push_in(before: LiveWindow, reading: u16) -> Call {
         let mut window = before;
         let told = live::push_in(
             before.cycle,
@@ -72,7 +72,7 @@ impl Call {
     }
 
     // The call as far as it is promised: of a window that no call made only whether it is refused, and by what.
-    pub fn promised(self, ours: bool) -> Call {
+    pub(crate) fn promised(self, ours: bool) -> Call {
         let said = if ours || self.said.is_refused() {
             self.said
         } else {
@@ -83,7 +83,7 @@ impl Call {
 }
 
 // Numbers that no fresh window holds, for a new window to be made in their place.
-pub fn garbage(cycle: u32, length: u32) -> LiveWindow {
+pub(crate) fn garbage(cycle: u32, length: u32) -> LiveWindow {
     LiveWindow {
         cycle,
         length,

@@ -1,7 +1,9 @@
 // The cases of the live window.
 use live::{LiveWindow, PLACES};
 use runs::cases;
+use runs::cases::{DECIMAL, nth};
 use std::alloc::{AllocError, Global};
+use std::array;
 
 #[derive(Clone, Copy, Debug)]
 pub enum Case<'a> {
@@ -9,70 +11,68 @@ pub enum Case<'a> {
     Live {
         cycle: u32,
         length: u32,
-        wakes: &'a str,
+        wakes: &'a [u8],
     },
     // C and T, with the readings of a row.
     Row {
         cycle: u32,
         length: u32,
-        wakes: &'a str,
+        wakes: &'a [u8],
     },
     // A window that no call made, with its readings and resets.
     Forged {
         window: LiveWindow,
-        wakes: &'a str,
+        wakes: &'a [u8],
     },
 }
 
-// The window of a case: C, T and its count, its readings and its sums, with commas between them.
-fn forged(alloc: Global, text: &str) -> Result<Option<LiveWindow>, AllocError> {
-    let Some((sizes, text)) = text.split_once(',') else {
-        return Ok(None);
+// The readings or the sums of a window. A number that the text lacks is 0.
+fn places(alloc: Global, text: &[u8]) -> Result<[u16; PLACES], AllocError> {
+    let numbers = cases::readings(alloc, text, PLACES)?;
+    Ok(array::from_fn(|k| nth(&numbers, k)))
+}
+
+// C, T and the count of a window, and behind commas its readings and its sums.
+fn forged<'a>(alloc: Global, line: &'a [u8]) -> Result<Case<'a>, AllocError> {
+    let (sizes, rest) = cases::split_once(line, b',');
+    let (readings, rest) = cases::split_once(rest, b',');
+    let (sums, wakes) = cases::split_once(rest, b':');
+    let mut numbers = [0; 3];
+    cases::numbers(sizes, DECIMAL, &mut numbers);
+    let [cycle, length, filled] = numbers;
+    let window = LiveWindow {
+        cycle,
+        length,
+        filled,
+        readings: places(alloc, readings)?,
+        sums: places(alloc, sums)?,
     };
-    let Some((readings, sums)) = text.split_once(',') else {
-        return Ok(None);
-    };
-    let sizes = cases::sizes(alloc, sizes)?;
-    let readings = cases::readings(alloc, readings)?;
-    let sums = cases::readings(alloc, sums)?;
-    let ([cycle, length, filled], Some(readings), Some(sums)) = (
-        sizes.as_slice(),
-        readings.first_chunk::<PLACES>(),
-        sums.first_chunk::<PLACES>(),
-    ) else {
-        return Ok(None);
-    };
-    Ok(Some(LiveWindow {
-        cycle: *cycle,
-        length: *length,
-        filled: *filled,
-        readings: *readings,
-        sums: *sums,
-    }))
+    Ok(Case::Forged { window, wakes })
 }
 
 impl<'a> Case<'a> {
-    // The case of a line, if it is one.
-    pub fn parse(alloc: Global, line: &'a str) -> Result<Option<Case<'a>>, AllocError> {
-        let Some((head, wakes)) = line.split_once(':') else {
-            return Ok(None);
-        };
-        if head.starts_with("forged") {
-            let window = forged(alloc, head)?;
-            return Ok(window.map(|window| Case::Forged { window, wakes }));
-        }
-        match *cases::sizes(alloc, head)?.as_slice() {
-            [cycle, length] if head.starts_with("live") => Ok(Some(Case::Live {
+    // The case of a line, if it is one. A number that it lacks is 0.
+    pub fn parse(alloc: Global, line: &'a [u8]) -> Result<Option<Case<'a>>, AllocError> {
+        let (head, wakes) = cases::split_once(line, b':');
+        let mut numbers = [0; 2];
+        cases::numbers(head, DECIMAL, &mut numbers);
+        let [cycle, length] = numbers;
+        if line.starts_with(b"live") {
+            Ok(Some(Case::Live {
                 cycle,
                 length,
                 wakes,
-            })),
-            [cycle, length] if head.starts_with("row") => Ok(Some(Case::Row {
+            }))
+        } else if line.starts_with(b"row") {
+            Ok(Some(Case::Row {
                 cycle,
                 length,
                 wakes,
-            })),
-            _ => Ok(None),
+            }))
+        } else if line.starts_with(b"forged") {
+            Ok(Some(forged(alloc, line)?))
+        } else {
+            Ok(None)
         }
     }
 }

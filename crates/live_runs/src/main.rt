@@ -15,11 +15,43 @@ mod rows;
 use case::Case;
 use live_checks::report::Report;
 use live_checks::run::Run;
+use live_checks::tally::Tally;
 use live_checks::windows::Members;
+use runs::cases::MOST_NUMBERS;
+use runs::input::Lines;
 use runs::{cases, input};
 use std::alloc::Global;
 use std::io;
 use std::io::{BufWriter, Write};
+
+// Pushes the readings of a text.
+fn push_all<W: Write>(
+    report: &mut Report<W>,
+    alloc: Global,
+    run: &mut Run,
+    text: &[u8],
+) -> io::Result<()> {
+    for reading in cases::readings(alloc, text, MOST_NUMBERS)?.iter() {
+        run.push(report, *reading)?;
+    }
+    Ok(())
+}
+
+// Pushes the readings of a text, with a reset at each `r`, the first letter of the word.
+fn play<W: Write>(
+    report: &mut Report<W>,
+    alloc: Global,
+    run: &mut Run,
+    text: &[u8],
+) -> io::Result<()> {
+    for (k, readings) in text.split(|byte| *byte == b'r').enumerate() {
+        if k > 0 {
+            run.reset(report)?;
+        }
+        push_all(report, alloc, run, readings)?;
+    }
+    Ok(())
+}
 
 fn run_case<W: Write>(report: &mut Report<W>, alloc: Global, case: &Case) -> io::Result<()> {
     match case {
@@ -29,7 +61,7 @@ fn run_case<W: Write>(report: &mut Report<W>, alloc: Global, case: &Case) -> io:
             wakes,
         } => {
             let mut run = Run::begin(report, *cycle, *length)?;
-            run.play(report, alloc, wakes)?;
+            play(report, alloc, &mut run, wakes)?;
             write!(report.out, "; {}", Members(&run.window))
         }
         Case::Row {
@@ -37,7 +69,7 @@ fn run_case<W: Write>(report: &mut Report<W>, alloc: Global, case: &Case) -> io:
             length,
             wakes,
         } => {
-            let row = cases::readings(alloc, wakes)?;
+            let row = cases::readings(alloc, wakes, MOST_NUMBERS)?;
             rows::run(report, alloc, *cycle, *length, &row)
         }
         Case::Forged { window, wakes } => {
@@ -46,24 +78,30 @@ fn run_case<W: Write>(report: &mut Report<W>, alloc: Global, case: &Case) -> io:
                 ours: false,
             };
             write!(report.out, " {}", Members(&run.window))?;
-            run.play(report, alloc, wakes)
+            play(report, alloc, &mut run, wakes)
         }
     }
 }
 
 fn run(rt: &(impl Input + Print + AllocGlobal)) -> io::Result<()> {
     let alloc = rt.alloc();
-    let cases = input::text(rt)?;
-    let mut report = Report::new(BufWriter::new(alloc, io::writer(rt))?);
-    for line in cases.lines() {
-        write!(report.out, "{line} ->")?;
+    let cases = input::bytes(rt);
+    let mut report = Report {
+        out: BufWriter::new(alloc, io::writer(rt))?,
+        tally: Tally::default(),
+    };
+    for line in Lines(&cases) {
+        report.out.write_all(line)?;
+        write!(report.out, " ->")?;
         match Case::parse(alloc, line)? {
             Some(case) => run_case(&mut report, alloc, &case)?,
             None => write!(report.out, " NO CASE")?,
         }
         writeln!(report.out)?;
     }
-    report.end()
+    let tally = report.tally;
+    write!(report.out, "{tally}")?;
+    report.out.flush()
 }
 
 fn main(rt: HostRuntime) {

@@ -1,16 +1,27 @@
 // A row pushed into a fresh window, by value and in place, and filtered by both engines as an image of one row: the
 // answer to reading k, from T - 1 on, must be the output at column k - t.
 use filter::Engine;
-use live::{LiveWindow, PLACES};
+use live::{Live, LiveWindow, PLACES};
 use live_checks::report::Report;
 use live_checks::said::{Runs, Said};
+use refusal::Refusal;
 use shape::Shape;
 use std::alloc::{AllocError, Global};
 use std::io;
 use std::io::Write;
 
-// The work memory: that of the level engine for 135 readings on 512 ticks, or 8,192 on 8.
+// The longest row, and the work memory: that of the level engine for 135 readings on 512 ticks, or 8,192 on 8.
+const MOST_ROW: usize = 8192;
+
 const WORK: usize = 69632;
+
+// No answer, and no phase.
+const OUTPUT_MARK: u16 = 60002;
+
+// The answer to a reading of a row. Why it is refused doesn't count.
+fn answer(told: Result<Live, Refusal>) -> Said {
+    told.map_or(Said::NoAnswer, Said::from)
+}
 
 // The answers to a row's readings, by value.
 fn push_row(alloc: Global, cycle: u32, length: u32, row: &[u16]) -> Result<Vec<Said>, AllocError> {
@@ -18,7 +29,7 @@ fn push_row(alloc: Global, cycle: u32, length: u32, row: &[u16]) -> Result<Vec<S
     let mut window = made.window;
     let mut answers = Vec::new(alloc);
     for reading in row {
-        answers.push(window.push(*reading).into())?;
+        answers.push(answer(window.push(*reading)))?;
     }
     Ok(answers)
 }
@@ -44,7 +55,7 @@ fn push_row_in(
             &mut readings,
             &mut sums,
         );
-        answers.push(told.into())?;
+        answers.push(answer(told))?;
     }
     Ok(answers)
 }
@@ -71,7 +82,7 @@ fn compare_engine<W: Write>(
     row: &[u16],
     answers: &[Said],
 ) -> io::Result<()> {
-    let mut output = vec![in alloc; 0; row.len()]?;
+    let mut output = vec![in alloc; OUTPUT_MARK; row.len()]?;
     let mut work = vec![in alloc; 0; WORK]?;
     if let Err(refusal) = filter::run(engine, shape, 0..1, row, &mut output, &mut work) {
         write!(report.out, "{refusal}")?;
@@ -97,6 +108,9 @@ pub fn run<W: Write>(
     length: u32,
     row: &[u16],
 ) -> io::Result<()> {
+    if MOST_ROW < row.len() {
+        return write!(report.out, " NO ROOM");
+    }
     let answers = push_row(alloc, cycle, length, row)?;
     let in_place = push_row_in(alloc, cycle, length, row)?;
     let shape = Shape {

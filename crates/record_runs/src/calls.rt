@@ -1,13 +1,13 @@
 // The calls of records, each on lent memory that holds a mark, and its answer in print.
-use crate::case::Lent;
+use crate::case::{Lent, MOST_BYTES};
 use runs::print::{Bytes, Readings, Sizes};
 use shape::Shape;
 use std::alloc::Global;
 use std::io::Write;
 use std::{fmt, io};
 
-// Room for the bytes and the readings that are written and read again.
-const MOST_BYTES: usize = 128;
+// The most readings that are lent, and the readings lent for what was written.
+const MOST_READINGS: usize = 8192;
 
 const BACK: usize = 20;
 
@@ -27,6 +27,9 @@ fn kept<T: PartialEq + Copy>(memory: &[T], mark: T) -> &'static str {
 
 // Reads a record with room for so many readings.
 pub fn read(out: &mut impl Write, alloc: Global, record: &[u8], room: usize) -> io::Result<()> {
+    if MOST_READINGS < room {
+        return writeln!(out, " NO ROOM");
+    }
     let mut buffer = vec![in alloc; READING_MARK; room]?;
     match record::read(record, &mut buffer) {
         Err(refusal) => writeln!(out, " {refusal}, {}", kept(&buffer, READING_MARK)),
@@ -48,6 +51,9 @@ pub fn write(
     readings: &[u16],
     room: usize,
 ) -> io::Result<()> {
+    if MOST_BYTES < room {
+        return writeln!(out, " NO ROOM");
+    }
     let mut bytes = vec![in alloc; BYTE_MARK; room]?;
     match record::write(shape, readings, &mut bytes) {
         Err(refusal) => writeln!(out, " {refusal}, {}", kept(&bytes, BYTE_MARK)),

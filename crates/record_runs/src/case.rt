@@ -1,9 +1,13 @@
 // The cases of records.
 use runs::cases;
+use runs::cases::{DECIMAL, HEXADECIMAL};
 use runs::print::{Bytes, Readings, Sizes};
 use shape::Shape;
 use std::alloc::{AllocError, Global};
 use std::fmt;
+
+// The most bytes of a record, room that is lent for one, and readings that are written.
+pub const MOST_BYTES: usize = 128;
 
 // A record, and room for so many readings.
 #[derive(Debug, Drop)]
@@ -31,7 +35,23 @@ pub enum Case {
     },
 }
 
+// The first number of a text; 0 if it has none.
+fn number(text: &[u8], base: u32) -> u32 {
+    let mut numbers = [0];
+    cases::numbers(text, base, &mut numbers);
+    numbers[0]
+}
+
 impl Lent {
+    // The bytes before the first comma, and the number behind it.
+    pub fn parse(alloc: Global, text: &[u8]) -> Result<Lent, AllocError> {
+        let (record, room) = cases::split_once(text, b',');
+        Ok(Lent {
+            record: cases::bytes(alloc, record, MOST_BYTES)?,
+            room: number(room, DECIMAL) as usize,
+        })
+    }
+
     // The last record that was read, after one case more.
     pub fn after(self, case: Case) -> Lent {
         match case {
@@ -41,60 +61,41 @@ impl Lent {
     }
 }
 
-// The first number of a text.
-fn number(alloc: Global, text: &str) -> Result<Option<usize>, AllocError> {
-    Ok(cases::sizes(alloc, text)?.first().map(|n| *n as usize))
+fn write_case(alloc: Global, text: &[u8]) -> Result<Case, AllocError> {
+    let (numbers, rest) = cases::split_once(text, b':');
+    let (readings, _) = cases::split_once(rest, b',');
+    let (_, room) = cases::split_once(text, b',');
+    let mut sizes = [0; 5];
+    cases::numbers(numbers, DECIMAL, &mut sizes);
+    Ok(Case::Write {
+        shape: cases::shape(&sizes),
+        readings: cases::readings(alloc, readings, MOST_BYTES)?,
+        room: number(room, DECIMAL) as usize,
+    })
 }
 
-fn read_case(alloc: Global, text: &str) -> Result<Option<Case>, AllocError> {
-    let Some((record, room)) = text.split_once(',') else {
-        return Ok(None);
-    };
-    let record = cases::bytes(alloc, record)?;
-    Ok(number(alloc, room)?.map(|room| Case::Read(Lent { record, room })))
-}
-
-fn write_case(alloc: Global, text: &str) -> Result<Option<Case>, AllocError> {
-    let Some((sizes, text)) = text.split_once(':') else {
-        return Ok(None);
-    };
-    let Some((readings, room)) = text.split_once(',') else {
-        return Ok(None);
-    };
-    let shape = cases::shape(&cases::sizes(alloc, sizes)?);
-    let readings = cases::readings(alloc, readings)?;
-    let room = number(alloc, room)?;
-    let (Some(shape), Some(room)) = (shape, room) else {
-        return Ok(None);
-    };
-    Ok(Some(Case::Write {
-        shape,
-        readings,
-        room,
-    }))
-}
-
-// A byte's place, and its value in hexadecimal: `3 is 4A`.
-fn byte_case(text: &str) -> Option<Case> {
-    let (at, value) = text.split_once(" is ")?;
-    let at = at.trim().parse::<usize>().ok()?;
-    let value = u8::from_str_radix(value, 16).ok()?;
-    Some(Case::Byte { at, value })
+// A byte's place, and behind the letter `s` its value in hexadecimal: `3 is 4A`.
+fn byte_case(text: &[u8]) -> Case {
+    let (at, value) = cases::split_once(text, b's');
+    Case::Byte {
+        at: number(at, DECIMAL) as usize,
+        value: (number(value, HEXADECIMAL) % 256) as u8,
+    }
 }
 
 impl Case {
-    // The case of a line, if it is one.
-    pub fn parse(alloc: Global, line: &str) -> Result<Option<Case>, AllocError> {
-        if let Some(text) = line.strip_prefix("read") {
-            read_case(alloc, text)
-        } else if let Some(text) = line.strip_prefix("again") {
-            Ok(Some(Case::Again(cases::bytes(alloc, text)?)))
-        } else if let Some(text) = line.strip_prefix("write") {
-            write_case(alloc, text)
-        } else if let Some(text) = line.strip_prefix("cut at ") {
-            Ok(text.parse::<usize>().ok().map(Case::Cut))
-        } else if let Some(text) = line.strip_prefix("byte ") {
-            Ok(byte_case(text))
+    // The case of a line, if it is one. A number that it lacks is 0.
+    pub fn parse(alloc: Global, line: &[u8]) -> Result<Option<Case>, AllocError> {
+        if let Some(text) = line.strip_prefix(b"read") {
+            Ok(Some(Case::Read(Lent::parse(alloc, text)?)))
+        } else if let Some(text) = line.strip_prefix(b"again") {
+            Ok(Some(Case::Again(Lent::parse(alloc, text)?.record)))
+        } else if let Some(text) = line.strip_prefix(b"write") {
+            Ok(Some(write_case(alloc, text)?))
+        } else if let Some(text) = line.strip_prefix(b"cut") {
+            Ok(Some(Case::Cut(number(text, DECIMAL) as usize)))
+        } else if let Some(text) = line.strip_prefix(b"byte") {
+            Ok(Some(byte_case(text)))
         } else {
             Ok(None)
         }

@@ -15,6 +15,7 @@ mod case;
 use calls::{read, read_changed, read_first, write, write_again};
 use case::{Case, Lent};
 use runs::input;
+use runs::input::Lines;
 use std::alloc::Global;
 use std::io;
 use std::io::{BufWriter, Write};
@@ -36,15 +37,14 @@ fn answer(out: &mut impl Write, alloc: Global, case: &Case, last: &Lent) -> io::
 
 fn run(rt: &(impl Input + Print + AllocGlobal)) -> io::Result<()> {
     let alloc = rt.alloc();
-    let cases = input::text(rt)?;
+    let cases = input::bytes(rt);
     let mut out = BufWriter::new(alloc, io::writer(rt))?;
-    let mut last = Lent {
-        record: Vec::new(alloc),
-        room: 0,
-    };
-    for line in cases.lines() {
+    // Until a `read` comes, the first line stands for it.
+    let mut last = Lent::parse(alloc, Lines(&cases).next().unwrap_or(&[]))?;
+    for line in Lines(&cases) {
         let Some(case) = Case::parse(alloc, line)? else {
-            writeln!(out, "{line} -> NO CASE")?;
+            out.write_all(line)?;
+            writeln!(out, " -> NO CASE")?;
             continue;
         };
         write!(out, "{case} ->")?;

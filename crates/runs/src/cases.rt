@@ -1,47 +1,115 @@
-// The numbers of a case, among words that say nothing. In a list of readings `3 of 8` is 8, three times.
+// The numbers of a case. A number is a run of digits, and what is no digit stands between numbers and says nothing,
+// but for the word `of`: `3 of 8` is 8, three times. Hexadecimal digits above 9 are capital letters.
+ghost use Rattle.std.specs.Prelude.{◌≡◌, ◌==◌, ◌≤◌, IfOk, length, slice_index, vec_len};
+ghost use Rattle.std.specs.List.{after_first, before_first};
+ghost use Rattle.shape.specs.declared.Shape.{Shape};
+
 use shape::Shape;
 use std::alloc::{AllocError, Global};
-use std::iter;
 
-// The numbers of a text, which may be large.
-pub fn sizes(alloc: Global, text: &str) -> Result<Vec<u32>, AllocError> {
-    text.split_whitespace()
-        .filter_map(|word| word.parse::<u32>().ok())
-        .collect(alloc)
+// The most numbers of a text.
+pub const MOST_NUMBERS: usize = 8200;
+
+pub const DECIMAL: u32 = 10;
+
+pub const HEXADECIMAL: u32 = 16;
+
+fn digit(byte: u8, base: u32) -> Option<u32> {
+    let digit = match byte {
+        b'0'..=b'9' => byte - b'0',
+        b'A'..=b'F' => byte - b'A' + 10,
+        _ => return None,
+    };
+    Some(u32::from(digit)).filter(|digit| *digit < base)
 }
 
-// The readings of a text.
-pub fn readings(alloc: Global, text: &str) -> Result<Vec<u16>, AllocError> {
-    let mut readings = Vec::new(alloc);
+// The number of a run of digits, or the largest one if that is less.
+fn number(digits: &[u8], base: u32) -> u32 {
+    digits.iter().filter_map(|byte| digit(*byte, base)).fold(
+        0,
+        |n: u32, digit| n.saturating_mul(base).saturating_add(digit),
+    )
+}
+
+// Lays the numbers of a text at the start of lent memory, as far as there is room; how many are laid. The last letter
+// of `of` takes the last number back, which stays where it was laid until another is laid there.
+pub fn numbers(text: &[u8], base: u32, numbers: &mut [u32]) -> usize
+    ensures { result ≤ length numbers.new }
+{
+    let mut count = 0;
     let mut times = 1;
-    for word in text.split_whitespace() {
-        if word == "of" {
-            times = readings.pop().map_or(1, usize::from);
-        } else if let Ok(reading) = word.parse::<u16>() {
-            readings.extend(iter::repeat_n(reading, times))?;
-            times = 1;
+    for word in text.chunk_by(|a, b| digit(*a, base).is_some() && digit(*b, base).is_some()) {
+        match word {
+            b"f" if count > 0 => {
+                count -= 1;
+                times = numbers[count] as usize;
+            }
+            [first, ..] if digit(*first, base).is_some() => {
+                let end = numbers.len().min(count.saturating_add(times));
+                numbers[count..end].fill(number(word, base));
+                count = end;
+                times = 1;
+            }
+            _ => {}
         }
     }
-    Ok(readings)
+    count
 }
 
-// The hexadecimal numbers of a text as bytes.
-pub fn bytes(alloc: Global, text: &str) -> Result<Vec<u8>, AllocError> {
-    text.split_whitespace()
-        .filter_map(|word| u8::from_str_radix(word, 16).ok())
+// The decimal numbers of a text in 16 bits each, as many as are wanted at most: what is above 16 bits is dropped.
+pub fn readings(alloc: Global, text: &[u8], most: usize) -> Result<Vec<u16>, AllocError>
+    ensures { IfOk result (λ readings. vec_len readings ≤ most) }
+{
+    let mut laid = [0; MOST_NUMBERS];
+    let count = numbers(text, DECIMAL, &mut laid);
+    laid[..count]
+        .iter()
+        .take(most)
+        .map(|n| (*n % 65536) as u16)
         .collect(alloc)
+}
+
+// The hexadecimal numbers of a text in 8 bits each.
+pub fn bytes(alloc: Global, text: &[u8], most: usize) -> Result<Vec<u8>, AllocError>
+    ensures { IfOk result (λ bytes. vec_len bytes ≤ most) }
+{
+    let mut laid = [0; MOST_NUMBERS];
+    let count = numbers(text, HEXADECIMAL, &mut laid);
+    laid[..count]
+        .iter()
+        .take(most)
+        .map(|n| (*n % 256) as u8)
+        .collect(alloc)
+}
+
+// A text up to a byte, and behind it; all of it and nothing, if it doesn't have the byte.
+pub fn split_once(text: &[u8], byte: u8) -> (&[u8], &[u8])
+    ensures head { result.0.now ≡ before_first (λ x. x == byte) text.now }
+    ensures tail { result.1.now ≡ after_first (λ x. x == byte) text.now }
+{
+    match text.iter().position(|x| *x == byte) {
+        Some(at) => (&text[..at], &text[at + 1..]),
+        None => (text, &[]),
+    }
+}
+
+// The number at a place of a list; 0 past its end.
+pub fn nth(numbers: &[u16], k: usize) -> u16
+    ensures { result ≡ slice_index numbers.now k }
+{
+    numbers.get(k).copied().unwrap_or(0)
 }
 
 // The shape of the first five numbers: cycle, rows, columns and the sides of the mask.
-pub fn shape(sizes: &[u32]) -> Option<Shape> {
-    let [cycle, rows, columns, mask_rows, mask_columns, ..] = *sizes else {
-        return None;
-    };
-    Some(Shape {
-        cycle,
-        rows,
-        columns,
-        mask_rows,
-        mask_columns,
-    })
+pub fn shape(sizes: &[u32]) -> Shape
+    ensures { result ≡ record { cycle = slice_index sizes.now 0; rows = slice_index sizes.now 1; columns = slice_index sizes.now 2; mask_rows = slice_index sizes.now 3; mask_columns = slice_index sizes.now 4 } }
+{
+    let size = |k: usize| sizes.get(k).copied().unwrap_or(0);
+    Shape {
+        cycle: size(0),
+        rows: size(1),
+        columns: size(2),
+        mask_rows: size(3),
+        mask_columns: size(4),
+    }
 }
