@@ -2,7 +2,8 @@
 ghost use Rattle.std.specs.Prelude.{length};
 ghost use Rattle.std.specs.Iterator.{at_most};
 
-// The bytes of the records that are left. The last one may be cut short.
+// The bytes of the records that are left. The last one may be cut short: it has the bytes that are there, and none if
+// its length is cut.
 #[derive(Clone, Copy, Debug)]
 pub struct Records<'a>(pub &'a [u8]);
 
@@ -12,9 +13,12 @@ impl<'a> Iterator for Records<'a> {
     ghost remaining = { λ records. at_most (length records.0.now) };
 
     fn next(&mut self) -> Option<&'a [u8]> {
-        let (length, rest) = self.0.split_first_chunk::<2>()?;
-        let length = usize::from(u16::from_be_bytes(*length));
-        let (record, rest) = rest.split_at(length.min(rest.len()));
+        let (length, rest) = match *self.0 {
+            [] => return None,
+            [_] => (0, &[][..]),
+            [high, low, ..] => (u16::from_be_bytes([high, low]), &self.0[2..]),
+        };
+        let (record, rest) = rest.split_at(rest.len().min(usize::from(length)));
         self.0 = rest;
         Some(record)
     }
