@@ -15,8 +15,20 @@ use answers::{Answer, RecordAnswer, ValueAnswer, WindowAnswer, length_value, win
 use live::PLACES;
 use shape::Shape;
 
-// The level engine: cycles up to 4,096, and C·(N + 1) numbers of work memory. C has a name for each engine, and gives
-// the numbers of a shape one by one.
+// The numbers of a shape, which C gives one by one.
+fn shape_of(cycle: u32, rows: u32, columns: u32, mask_rows: u32, mask_columns: u32) -> Shape
+    ensures { result ≡ shape_of cycle rows columns mask_rows mask_columns }
+{
+    Shape {
+        cycle,
+        rows,
+        columns,
+        mask_rows,
+        mask_columns,
+    }
+}
+
+// The level engine: cycles up to 4,096, and C·(N + 1) numbers of work memory. C has a name for each engine.
 #[unsafe(no_mangle)]
 pub extern "C" fn circle_median_level(
     cycle: u32,
@@ -32,13 +44,7 @@ pub extern "C" fn circle_median_level(
 ) -> Answer
     ensures { ExportedFilterCall Level (shape_of cycle rows columns mask_rows mask_columns) first end input.now output.old work.old result output.new work.new }
 {
-    let shape = Shape {
-        cycle,
-        rows,
-        columns,
-        mask_rows,
-        mask_columns,
-    };
+    let shape = shape_of(cycle, rows, columns, mask_rows, mask_columns);
     filter::level(shape, first..end, input, output, work).into()
 }
 
@@ -58,13 +64,7 @@ pub extern "C" fn circle_median_reading(
 ) -> Answer
     ensures { ExportedFilterCall Reading (shape_of cycle rows columns mask_rows mask_columns) first end input.now output.old work.old result output.new work.new }
 {
-    let shape = Shape {
-        cycle,
-        rows,
-        columns,
-        mask_rows,
-        mask_columns,
-    };
+    let shape = shape_of(cycle, rows, columns, mask_rows, mask_columns);
     filter::reading(shape, first..end, input, output, work).into()
 }
 
@@ -113,13 +113,7 @@ pub extern "C" fn circle_median_write(
 ) -> ValueAnswer
     ensures { ExportedWriteCall (shape_of cycle rows columns mask_rows mask_columns) readings.now bytes.old result bytes.new }
 {
-    let shape = Shape {
-        cycle,
-        rows,
-        columns,
-        mask_rows,
-        mask_columns,
-    };
+    let shape = shape_of(cycle, rows, columns, mask_rows, mask_columns);
     record::write(shape, readings, bytes)
         .map(length_value)
         .into()

@@ -5,37 +5,29 @@
 // The case is printed, as it was understood, and after it the answer; a drift is printed as it stands.
 #![tactic(auto)]
 
+use refusal::Refusal;
 use runs::cases::{DECIMAL, MOST_NUMBERS};
 use runs::input::Lines;
-use runs::print::Answer;
+use runs::print::{Answer, Readings};
 use runs::{cases, input};
 use std::alloc::Global;
-use std::io;
 use std::io::{BufWriter, Write};
+use std::{array, fmt, io};
 
 fn place(inside: bool) -> &'static str {
     if inside { "inside" } else { "outside" }
 }
 
-fn distance(out: &mut impl Write, cycle: u32, a: u16, b: u16) -> io::Result<()> {
-    write!(out, "distance on {cycle}: {a} {b} -> ")?;
-    writeln!(out, "{}", Answer(cycle::distance(cycle, a, b)))
-}
-
-fn step(out: &mut impl Write, cycle: u32, a: u16, b: u16) -> io::Result<()> {
-    write!(out, "step on {cycle}: {a} {b} -> ")?;
-    writeln!(out, "{}", Answer(cycle::step(cycle, a, b)))
-}
-
-fn slot(out: &mut impl Write, cycle: u32, p: u16, s: u16, w: u16) -> io::Result<()> {
-    write!(out, "slot on {cycle}: {p} {s} {w} -> ")?;
-    writeln!(out, "{}", Answer(cycle::slot(cycle, p, s, w).map(place)))
-}
-
-// A case as it stands, and its answer.
-fn drift(out: &mut impl Write, line: &[u8], cycle: u32, row: &[u16]) -> io::Result<()> {
-    out.write_all(line)?;
-    writeln!(out, " -> {}", Answer(cycle::drift(cycle, row)))
+// A call on some ticks, and its answer.
+fn print<T: fmt::Display>(
+    out: &mut impl Write,
+    call: &str,
+    cycle: u32,
+    ticks: &[u16],
+    answer: Result<T, Refusal>,
+) -> io::Result<()> {
+    write!(out, "{call} on {cycle}:{} -> ", Readings(ticks))?;
+    writeln!(out, "{}", Answer(answer))
 }
 
 fn run_line(out: &mut impl Write, alloc: Global, line: &[u8]) -> io::Result<()> {
@@ -44,18 +36,27 @@ fn run_line(out: &mut impl Write, alloc: Global, line: &[u8]) -> io::Result<()> 
     cases::numbers(head, DECIMAL, &mut cycle);
     let [cycle] = cycle;
     let ticks = cases::readings(alloc, ticks, MOST_NUMBERS)?;
-    let tick = |k: usize| ticks.get(k).copied().unwrap_or(0);
+    let [a, b, w] = array::from_fn(|k| cases::nth(&ticks, k));
     if line.starts_with(b"distance") {
-        distance(out, cycle, tick(0), tick(1))
+        print(
+            out,
+            "distance",
+            cycle,
+            &[a, b],
+            cycle::distance(cycle, a, b),
+        )
     } else if line.starts_with(b"step") {
-        step(out, cycle, tick(0), tick(1))
+        print(out, "step", cycle, &[a, b], cycle::step(cycle, a, b))
     } else if line.starts_with(b"slot") {
-        slot(out, cycle, tick(0), tick(1), tick(2))
-    } else if line.starts_with(b"drift") {
-        drift(out, line, cycle, &ticks)
+        let answer = cycle::slot(cycle, a, b, w).map(place);
+        print(out, "slot", cycle, &[a, b, w], answer)
     } else {
         out.write_all(line)?;
-        writeln!(out, " -> NO CASE")
+        if line.starts_with(b"drift") {
+            writeln!(out, " -> {}", Answer(cycle::drift(cycle, &ticks)))
+        } else {
+            writeln!(out, " -> NO CASE")
+        }
     }
 }
 

@@ -9,7 +9,7 @@ use live::LiveWindow;
 use std::io;
 use std::io::Write;
 
-// A window, and whether the calls made it.
+// A window, and whether the calls made it: a flag and no type, since a reset makes a window of ours of any.
 #[derive(Clone, Copy, Debug)]
 pub struct Run {
     pub window: LiveWindow,
@@ -31,7 +31,7 @@ impl Run {
         report.judge(before.agree(&call, &beside), "NOT SO IN PLACE")?;
         Ok(Run {
             window: call.window,
-            ours: true,
+            ..before
         })
     }
 

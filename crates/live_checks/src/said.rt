@@ -17,7 +17,8 @@ pub enum Said {
     NoAnswer,
 }
 
-// Numbers that no tick of a live window is: they stand for answers in the place of phases.
+// Numbers that no tick of a live window is: they stand for answers in the place of phases, and where a window that no
+// call made holds one of them, it is printed so.
 const FILLING: u16 = 60000;
 
 const NO_ANSWER: u16 = 60001;

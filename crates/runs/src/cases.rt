@@ -56,30 +56,38 @@ pub fn numbers(text: &[u8], base: u32, numbers: &mut [u32]) -> usize
     count
 }
 
+// The numbers of a text, as many as are wanted at most, each made narrow.
+fn narrowed<T: Copy, F: Fn(u32) -> T>(
+    alloc: Global,
+    text: &[u8],
+    base: u32,
+    most: usize,
+    narrow: F,
+) -> Result<Vec<T>, AllocError>
+    requires { (state : F) (x : _) → F.pre state x }
+    ensures { IfOk result (λ narrowed. vec_len narrowed ≤ most) }
+{
+    let mut laid = [0; MOST_NUMBERS];
+    let count = numbers(text, base, &mut laid);
+    laid[..count]
+        .iter()
+        .take(most)
+        .map(|n| narrow(*n))
+        .collect(alloc)
+}
+
 // The decimal numbers of a text in 16 bits each, as many as are wanted at most: what is above 16 bits is dropped.
 pub fn readings(alloc: Global, text: &[u8], most: usize) -> Result<Vec<u16>, AllocError>
     ensures { IfOk result (λ readings. vec_len readings ≤ most) }
 {
-    let mut laid = [0; MOST_NUMBERS];
-    let count = numbers(text, DECIMAL, &mut laid);
-    laid[..count]
-        .iter()
-        .take(most)
-        .map(|n| (*n % 65536) as u16)
-        .collect(alloc)
+    narrowed(alloc, text, DECIMAL, most, |n| (n % 65536) as u16)
 }
 
 // The hexadecimal numbers of a text in 8 bits each.
 pub fn bytes(alloc: Global, text: &[u8], most: usize) -> Result<Vec<u8>, AllocError>
     ensures { IfOk result (λ bytes. vec_len bytes ≤ most) }
 {
-    let mut laid = [0; MOST_NUMBERS];
-    let count = numbers(text, HEXADECIMAL, &mut laid);
-    laid[..count]
-        .iter()
-        .take(most)
-        .map(|n| (*n % 256) as u8)
-        .collect(alloc)
+    narrowed(alloc, text, HEXADECIMAL, most, |n| (n % 256) as u8)
 }
 
 // A text up to a byte, and behind it; all of it and nothing, if it doesn't have the byte.
