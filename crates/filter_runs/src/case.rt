@@ -10,7 +10,7 @@ use std::ops::Range;
 // The most readings of an image.
 const MOST_IMAGE: usize = 256;
 
-#[derive(Debug, Drop)]
+#[derive(Drop)]
 pub struct Case<'a> {
     pub name: &'a [u8],
     pub shape: Shape,
@@ -55,7 +55,7 @@ const OUTPUT_MARK: u16 = 9;
 const WORK_MARK: u32 = 7;
 
 // What is lent to a call, filled with marks before it.
-#[derive(Debug, Drop)]
+#[derive(Drop)]
 pub struct Lent {
     pub output: Vec<u16>,
     pub work: Vec<u32>,

@@ -14,7 +14,7 @@ use std::ops::Range;
 // The numbers of a case before its readings.
 const HEAD: usize = 7;
 
-#[derive(Debug, Drop)]
+#[derive(Drop)]
 pub struct Case<'a> {
     pub shape: Shape,
     pub rows: Range<u32>,
@@ -26,7 +26,7 @@ pub struct Case<'a> {
 }
 
 // What is due of a call: its answer, where it writes how many phases, and how many work numbers it makes 0.
-#[derive(Debug, Drop)]
+#[derive(Drop)]
 pub struct Due {
     pub answer: Result<(), Refusal>,
     pub rows: usize,
@@ -36,7 +36,7 @@ pub struct Due {
 }
 
 // The numbers of the cases that are left. Where the last one is cut short, 0 stands for what is missing.
-#[derive(Clone, Copy, Debug)]
+#[derive(Clone, Copy)]
 pub struct Cases<'a>(pub &'a [u16]);
 
 impl<'a> Iterator for Cases<'a> {

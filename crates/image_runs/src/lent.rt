@@ -7,7 +7,7 @@ const OUTPUT: usize = 512;
 
 const WORK: usize = 168000;
 
-#[derive(Debug, Drop)]
+#[derive(Drop)]
 pub struct Memory {
     pub output: Vec<u16>,
     pub work: Vec<u32>,

@@ -28,7 +28,7 @@ use tally::Tally;
 const MOST_READINGS: usize = 480;
 
 // What was counted of each engine's calls.
-#[derive(Clone, Copy, Debug, Default)]
+#[derive(Clone, Copy, Default)]
 struct Counts {
     images: usize,
     level: Tally,

@@ -5,7 +5,7 @@ use refusal::Refusal;
 use runs::cases::nth;
 use std::fmt;
 
-#[derive(Clone, Copy, Debug, Default)]
+#[derive(Clone, Copy, Default)]
 pub struct Tally {
     filtered: usize,
     refused: usize,

@@ -3,7 +3,7 @@ use crate::tally::Tally;
 use std::io;
 use std::io::Write;
 
-#[derive(Debug, Drop)]
+#[derive(Drop)]
 pub struct Report<W> {
     pub out: W,
     pub tally: Tally,

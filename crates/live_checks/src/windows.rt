@@ -4,7 +4,7 @@ use live::{LiveWindow, PLACES};
 use std::fmt;
 
 // What a call was answered, and the window after it.
-#[derive(Clone, Copy, Debug, PartialEq, Eq)]
+#[derive(Clone, Copy, PartialEq, Eq)]
 pub(crate) struct Call {
     pub said: Said,
     pub window: LiveWindow,

@@ -5,7 +5,7 @@ use runs::cases::{DECIMAL, nth};
 use std::alloc::{AllocError, Global};
 use std::array;
 
-#[derive(Clone, Copy, Debug)]
+#[derive(Clone, Copy)]
 pub enum Case<'a> {
     // C and T of a new window, with its readings and resets.
     Live {

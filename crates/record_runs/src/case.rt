@@ -10,13 +10,13 @@ use std::fmt;
 pub const MOST_BYTES: usize = 128;
 
 // A record, and room for so many readings.
-#[derive(Debug, Drop)]
+#[derive(Drop)]
 pub struct Lent {
     pub record: Vec<u8>,
     pub room: usize,
 }
 
-#[derive(Debug, Drop)]
+#[derive(Drop)]
 pub enum Case {
     Read(Lent),
     Again(Vec<u8>),

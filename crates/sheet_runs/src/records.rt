@@ -4,7 +4,7 @@ ghost use Rattle.std.specs.Iterator.{at_most};
 
 // The bytes of the records that are left. The last one may be cut short: it has the bytes that are there, and none if
 // its length is cut.
-#[derive(Clone, Copy, Debug)]
+#[derive(Clone, Copy)]
 pub struct Records<'a>(pub &'a [u8]);
 
 impl<'a> Iterator for Records<'a> {
