@@ -1,4 +1,4 @@
-// Arithmetic on ticks that have been tested.
+// Arithmetic on ticks that have been tested: bare numbers, in the width that each caller has, their bounds asked for.
 ghost use Rattle.std.specs.Prelude.{◌≡◌, ◌-◌, ◌^◌, ◌<◌, ◌≤◌, true, length, pos, ◌-ℤ◌, if◌then◌else◌};
 ghost use Rattle.lists.specs.First.{first_bad};
 ghost use Rattle.refusal.specs.Limits.{most_columns};

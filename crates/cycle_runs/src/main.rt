@@ -19,7 +19,7 @@ fn place(inside: bool) -> &'static str {
 }
 
 // A call on some ticks, and its answer.
-fn print<T: fmt::Display>(
+fn print<T: fmt::Display + Drop>(
     out: &mut impl Write,
     call: &str,
     cycle: u32,
@@ -36,7 +36,8 @@ fn run_line(out: &mut impl Write, alloc: Global, line: &[u8]) -> io::Result<()> 
     cases::numbers(head, DECIMAL, &mut cycle);
     let [cycle] = cycle;
     let ticks = cases::readings(alloc, ticks, MOST_NUMBERS)?;
-    let [a, b, w] = array::from_fn(|k| cases::nth(&ticks, k));
+    let first: [u16; 3] = array::from_fn(|k| cases::nth(&ticks, k));
+    let [a, b, w] = first;
     if line.starts_with(b"distance") {
         print(
             out,

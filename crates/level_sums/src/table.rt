@@ -1,5 +1,5 @@
-// The table of distances: by it, what a reading adds to the sums at all ticks is contiguous. A heard reading
-// adds its distances, a silent one zeros.
+// The table of distances: by it, what a reading adds to the sums at all ticks is contiguous. A heard reading adds its
+// distances, a silent one zeros. A cycle is a bare number, as an index has it, with its bound asked for.
 ghost use Rattle.std.specs.Prelude.{◌≡◌, ◌*◌, ◌%◌, ◌≤◌, ◌<◌, replicate};
 ghost use Rattle.refusal.specs.Limits.{level_cycle};
 ghost use Rattle.cycle.specs.Distance.{distance};
