@@ -1,4 +1,4 @@
-// The program `bench_sheet` again, for a run on a record of 16,385 zero bytes: one byte too long.
+// The program `bench_sheet` again, for a run on 16,385 zero bytes, one too many: the gate runs a program once, on one input.
 #![tactic(auto)]
 
 fn main(rt: HostRuntime) {

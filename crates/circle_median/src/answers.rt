@@ -131,7 +131,7 @@ fn live_value(live: Live) -> i64
     }
 }
 
-// Of a push into a live window, with the count of readings after it.
+// Of a push into a live window, with the count of readings after it, which no `From` would be given.
 pub fn window_answer(answer: Result<Live, Refusal>, filled: u32) -> WindowAnswer
     ensures { result ≡ window_answer_of (value_of (lived (outcome answer))) filled }
 {

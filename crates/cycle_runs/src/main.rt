@@ -30,6 +30,7 @@ fn print<T: fmt::Display + Drop>(
     writeln!(out, "{}", Answer(answer))
 }
 
+// No enum of cases: each word is a call with arguments of its own.
 fn run_line(out: &mut impl Write, alloc: Global, line: &[u8]) -> io::Result<()> {
     let (head, ticks) = cases::split_once(line, b':');
     let mut cycle = [0];

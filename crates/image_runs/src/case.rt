@@ -3,8 +3,9 @@ ghost use Rattle.std.specs.Prelude.{length};
 ghost use Rattle.std.specs.Iterator.{at_most};
 
 use filter::Engine;
-use refusal::Refusal;
 use refusal::limits::LEVEL_CYCLE;
+use refusal::{Refusal, refuse_if};
+use runs::cases;
 use runs::cases::nth;
 use shape::Shape;
 use std::alloc::{AllocError, Global};
@@ -18,17 +19,18 @@ const HEAD: usize = 7;
 pub struct Case<'a> {
     pub shape: Shape,
     pub rows: Range<u32>,
-    // How many readings the case has, and phases behind them.
+    // How many readings the case has, and phases behind them: lengths and no parts, since a case that is cut short goes
+    // on in zeros.
     pub area: usize,
     pub range: usize,
     // The numbers from the first reading on, also those of the cases behind it.
     pub numbers: &'a [u16],
 }
 
-// What is due of a call: its answer, where it writes how many phases, and how many work numbers it makes 0.
-#[derive(Drop)]
+// What is due of a call that filters: where it writes how many phases, and how many work numbers it makes 0. By default
+// that of one that is refused.
+#[derive(Clone, Copy, Default)]
 pub struct Due {
-    pub answer: Result<(), Refusal>,
     pub rows: usize,
     pub start: usize,
     pub phases: usize,
@@ -50,19 +52,13 @@ impl<'a> Iterator for Cases<'a> {
         }
         let (head, numbers) = self.0.split_at(self.0.len().min(HEAD));
         let sizes: [u16; HEAD] = array::from_fn(|k| nth(head, k));
-        let [cycle, rows, columns, mask_rows, mask_columns, first, end] = sizes;
+        let [_, rows, columns, _, _, first, end] = sizes;
         let area = usize::from(rows) * usize::from(columns);
         let range = usize::from(end.saturating_sub(first)) * usize::from(columns);
         let (_, rest) = numbers.split_at(numbers.len().min(area + range));
         self.0 = rest;
         Some(Case {
-            shape: Shape {
-                cycle: u32::from(cycle),
-                rows: u32::from(rows),
-                columns: u32::from(columns),
-                mask_rows: u32::from(mask_rows),
-                mask_columns: u32::from(mask_columns),
-            },
+            shape: cases::shape(&sizes.map(u32::from)),
             rows: u32::from(first)..u32::from(end),
             area,
             range,
@@ -81,7 +77,7 @@ impl<'a> Case<'a> {
         nth(self.numbers, self.area.saturating_add(k))
     }
 
-    // The numbers of work memory that an engine needs.
+    // The numbers of work memory that an engine needs, stated anew: what is due isn't taken from what is tried.
     fn need(&self, engine: Engine) -> usize {
         let shape = self.shape;
         let blocks = match engine {
@@ -91,22 +87,14 @@ impl<'a> Case<'a> {
         blocks.saturating_mul(shape.columns as usize + 1)
     }
 
-    pub fn due(&self, engine: Engine) -> Due {
-        if engine == Engine::Level && LEVEL_CYCLE < self.shape.cycle {
-            return Due {
-                answer: Err(Refusal::Cycle),
-                rows: 0,
-                start: 0,
-                phases: 0,
-                need: 0,
-            };
-        }
-        Due {
-            answer: Ok(()),
+    pub fn due(&self, engine: Engine) -> Result<Due, Refusal> {
+        let too_long = engine == Engine::Level && LEVEL_CYCLE < self.shape.cycle;
+        refuse_if(too_long, Refusal::Cycle)?;
+        Ok(Due {
             rows: self.rows.end.saturating_sub(self.rows.start) as usize,
             start: self.rows.start as usize * self.shape.columns as usize,
             phases: self.range,
             need: self.need(engine),
-        }
+        })
     }
 }

@@ -48,9 +48,8 @@ impl Memory {
         {
             *x = case.phase(k);
         }
-        for x in work.iter_mut().take(due.need) {
-            *x = 0;
-        }
+        let need = due.need.min(work.len());
+        work[..need].fill(0);
         Ok(Memory { output, work })
     }
 }

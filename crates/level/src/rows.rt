@@ -1,4 +1,4 @@
-// The rows of the output: the first of a range, and each later one from the row above it.
+// The rows of the output: the first of a range, and each later one from the row above it. Centres by place: no `zip`, as in `memory`.
 ghost use Rattle.std.specs.Prelude.{◌≡◌, ◌+◌, ◌≤◌, ◌<◌, length};
 ghost use Rattle.refusal.specs.Limits.{level_cycle};
 ghost use Rattle.shape.specs.Need.{level_need};
@@ -82,8 +82,8 @@ fn next_row(step: &Step, sums: &mut [u32], change: &mut [u32], lines: &mut Lines
     }
 }
 
-// The rows of a range of the output, each lent in its turn. The sums and the differences are lent one beside the other:
-// of a struct of them no two could be lent to a call at once.
+// The rows of a range of the output, each lent in its turn by its bounds, since the range starts in the middle. Sums and
+// differences are lent side by side: two `&mut` slices that a struct holds cannot be lent to a call at once.
 fn each_row(
     source: &Source,
     rows: Range<usize>,

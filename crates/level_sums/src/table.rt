@@ -11,7 +11,7 @@ use refusal::limits::LEVEL_CYCLE;
 // The numbers in the table: two rounds of the longest cycle that the engine takes, and one of zeros.
 pub const TABLE: usize = (3 * LEVEL_CYCLE) as usize;
 
-// k modulo the cycle, for k below two cycles: without a division, since it is asked 2 C times in a call.
+// k modulo the cycle, for k below two cycles: without a division, since it is asked 2 C times in a call. Of a step: `ahead_by`.
 fn wrapped(cycle: usize, k: usize) -> usize
     requires { k < 2 * cycle }
     ensures { result ≡ k % cycle }

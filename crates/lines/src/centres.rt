@@ -1,4 +1,4 @@
-// What stands in for silent centres, and whether any is silent.
+// What stands in for silent centres, and whether any is silent. Readings by their places: no `zip`, as in `memory`.
 ghost use Rattle.std.specs.Prelude.{◌≡◌, ◌≤◌, length, IsTrue};
 ghost use Rattle.memory.specs.Memory.{Each};
 ghost use Rattle.lines.specs.Lines.{AllHeard, heard_or, stood_in};

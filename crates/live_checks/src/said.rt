@@ -4,6 +4,7 @@ use live::Live;
 use refusal::Refusal;
 use std::fmt;
 
+// What is printed of a call, of which a refusal is one word: so it is no `Result`.
 #[derive(Clone, Copy, Debug, PartialEq, Eq)]
 pub enum Said {
     Fresh,

@@ -63,7 +63,7 @@ fn key_of(cycle: u16, centre: u16, q: u16, sum: u16) -> u32
     key_unless_silent(q, (sum % 32768) as u32 * 65536 + rank as u32)
 }
 
-// The least key of a window. One pass without a branch.
+// The least key of a window. One pass without a branch; sums by their places, as `key_at` has them.
 fn least_key(cycle: u16, centre: u16, readings: &[u16], sums: &[u16]) -> u32
     requires { length sums.now ≡ length readings.now }
     ensures { result ≡ lowest (key_at cycle centre readings.now sums.now) (length readings.now) }

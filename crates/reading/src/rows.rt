@@ -94,7 +94,7 @@ fn one_row(
     memory.best.phases(shape.cycle, &lines.centres, out);
 }
 
-// The rows of a range of the output, each lent in its turn.
+// The rows of a range of the output, each lent in its turn by its bounds, since the range starts in the middle.
 fn each_row(
     image: &Image,
     rows: Range<usize>,

@@ -1,6 +1,6 @@
 // The lowest pair of each window of a row: the readings of the windows are weighed one plane after the other,
 // and for each window the least sum so far is kept, with the least rank among the readings that have it. A
-// silent reading has no sum, which changes nothing. After the last plane the ranks tell the phases of the row.
+// silent reading has no sum, which changes nothing. After the last plane the ranks tell the phases of the row. No `zip`, as in `memory`.
 ghost use Rattle.std.specs.Prelude.{◌≡◌, ℕ, ◌^◌, ◌<◌, ◌≤◌, true, length, if◌then◌else◌, slice_index};
 ghost use Rattle.refusal.specs.Limits.{longest_cycle};
 ghost use Rattle.cycle.specs.Silence.{is_reading};

@@ -3,7 +3,7 @@
 // measure are told whether silence needs no test: `plain` is a flag, since a loop asks it once and becomes two
 // packed loops. They are three and not one, since each has another formula in its loop and nothing else. A second
 // slice is read at the place of the first: where `iter_mut().zip(..)` goes over two, the invariant of a loop has no word
-// for what the first holds so far. Internal: each has a `requires`, which the engine meets.
+// for what the first holds so far. Lengths and `Measurable` are asked for: they are of two slices. Internal: the engine meets each.
 #![tactic(auto)]
 
 ghost use Rattle.std.specs.Prelude.{◌≡◌, ◌+◌, ◌/◌, ◌≤◌, length};

@@ -24,7 +24,7 @@ pub struct Built<'a> {
 
 impl<'a> Built<'a> {
     // Counts, over all mask rows, the columns from `at` on at the places from `start` on: two rows at a time,
-    // and the last one alone, since the mask rows are odd in number. `row` and `other` are memory for lines.
+    // and the last one alone, since the mask rows are odd in number. `row` and `other` are memory for lines, padded within: so places, no parts.
     fn count(
         &self,
         start: usize,
@@ -100,7 +100,7 @@ impl<'a> Built<'a> {
         changes[..columns + mask].fill(0);
     }
 
-    // One turn of the sweep behind: plane l, from the changes of the plane before it.
+    // One turn of the sweep behind: plane l, from the changes of the plane before it. By its number: the places of `own` go by it.
     pub fn behind(
         &self,
         l: usize,

@@ -71,7 +71,7 @@ impl<'a> Carried<'a> {
         changes[..columns + mask].fill(0);
     }
 
-    // One turn of the sweep behind: plane l, from the changes of the plane before it.
+    // One turn of the sweep behind: plane l, from the changes of the plane before it. By its number: the places of `own` go by it.
     pub fn behind(&self, l: usize, plane: &mut [u32], changes: &mut Changes, stepped: &mut Line)
         requires later_plane { (0 < l) × (l < self.now.shape.mask_columns) }
         requires one_plane { length plane.old ≡ self.now.shape.columns }

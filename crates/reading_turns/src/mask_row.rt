@@ -31,7 +31,7 @@ pub struct MaskRow<'a> {
 }
 
 impl<'a> MaskRow<'a> {
-    // Weighs plane l, which has its sums. `ranks` is memory for those of its readings.
+    // Weighs plane l, which has its sums. By its number: the places of `own` go by it. `ranks` is memory for those of its readings.
     pub fn weigh(&self, l: usize, plane: &[u32], ranks: &mut Line, best: &mut Best)
         requires inside { l < self.now.row.image.shape.mask_columns }
         requires one_plane { length plane.now ≡ self.now.row.image.shape.columns }

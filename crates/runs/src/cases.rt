@@ -14,6 +14,7 @@ pub const DECIMAL: u32 = 10;
 
 pub const HEXADECIMAL: u32 = 16;
 
+// By hand, since of the letters only capital ones are digits.
 fn digit(byte: u8, base: u32) -> Option<u32> {
     let digit = match byte {
         b'0'..=b'9' => byte - b'0',
@@ -56,7 +57,7 @@ pub fn numbers(text: &[u8], base: u32, numbers: &mut [u32]) -> usize
     count
 }
 
-// The numbers of a text, as many as are wanted at most, each made narrow.
+// The numbers of a text, as many as are wanted at most, each made narrow. Readings and bytes are a line each over it.
 fn narrowed<T: Copy, F: Fn(u32) -> T>(
     alloc: Global,
     text: &[u8],
