@@ -18,7 +18,7 @@ fn output_garbage(place: usize, call: usize) -> u16 {
     ((place % 65521 * 40503 + call % 65521 * 9973) % 65521 + 1) as u16
 }
 
-// Garbage for the work memory: never 0, and another at each of its places. 4,294,967,291 is prime.
+// Garbage for the work memory, by constants that 64 bits hold too: never 0, another at each place. 4,294,967,291 is prime.
 fn work_garbage(place: usize, call: usize) -> u32 {
     ((place % 4294967291 * 2654435761 + call % 4294967291 * 40503) % 4294967291 + 1) as u32
 }

@@ -23,7 +23,7 @@ fn answer(told: Result<Live, Refusal>) -> Said {
     told.map_or(Said::NoAnswer, Said::from)
 }
 
-// The answers to a row's readings, by value.
+// The answers to a row's readings, by value; below, in place: the two ways that are compared, so each is written out.
 fn push_row(alloc: Global, cycle: u32, length: u32, row: &[u16]) -> Result<Vec<Said>, AllocError> {
     let made = LiveWindow::fresh(cycle, length);
     let mut window = made.window;

@@ -33,7 +33,7 @@ fn number(digits: &[u8], base: u32) -> u32 {
 }
 
 // Lays the numbers of a text at the start of lent memory, as far as there is room; how many are laid. The last letter
-// of `of` takes the last number back, which stays where it was laid until another is laid there.
+// of `of` takes the last number back, which stays where it was laid until another is laid there. In zeros, 0 is left for a missing one.
 pub fn numbers(text: &[u8], base: u32, numbers: &mut [u32]) -> usize
     ensures { result ≤ length numbers.new }
 {
