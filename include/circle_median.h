@@ -133,7 +133,7 @@ circle_median_value_answer circle_median_write(
     uint8_t *bytes, size_t bytes_length);
 
 /* Reads a record, which must fill all of bytes; its rows * columns readings stand at the front of readings, FF FF as
- * silent on every cycle. Any refusal but 4, 5, 6 and 8 can come. */
+ * silent on every cycle. An empty mask field reads as 1 by 7. Any refusal but 4, 5, 6 and 8 can come. */
 circle_median_record_answer circle_median_read(
     const uint8_t *bytes, size_t bytes_length,
     uint16_t *readings, size_t readings_length);

@@ -97,7 +97,7 @@ def shape_refusal(limit, shape):
 
 Record = namedtuple("Record", "cycle rows columns mask_rows mask_columns readings")
 
-DEFAULT_MASK = (1, 3)
+DEFAULT_MASK = (1, 7)
 
 
 def write_record(c, m, n, r, t, readings, room):

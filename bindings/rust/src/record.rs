@@ -34,8 +34,9 @@ pub fn write(shape: Shape, readings: &[u16], bytes: &mut [u8]) -> Result<usize, 
 }
 
 /// Reads the record that fills `bytes`: returns its shape, and its rows · columns readings stand at the front of
-/// `readings`, the rest of which stays; FF FF is [`SILENT`](crate::SILENT) on every cycle. The fields are tested one by
-/// one, so refusals come in the order of the bytes: any number but 5, 6 and 8.
+/// `readings`, the rest of which stays; FF FF is [`SILENT`](crate::SILENT) on every cycle, and an empty mask field is a
+/// mask of 1 by 7. The fields are tested one by one, so refusals come in the order of the bytes: any number but 4, 5, 6
+/// and 8.
 ///
 /// ```
 /// use circle_median::{read, write, Refusal, Shape, SILENT};

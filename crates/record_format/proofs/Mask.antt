@@ -1,4 +1,5 @@
--- The mask that a record is read with: the default one where its mask field is empty, and else the one that it states. Assumes nothing.
+-- The mask that a record is read with. Document 02, T-06: "An 03 field of length 0 now means 1 by 7", and records "that state a mask read
+-- as ever". Assumes nothing.
 use Rattle.std.proofs.Common.{ℕ, ◌≡◌, refl, List}
 use Rattle.refusal.specs.Outcome.{Clear}
 use Rattle.refusal.specs.Outcome.Outcome.{accepted}
@@ -21,8 +22,8 @@ module _ (bytes : List ℕ) (room : ℕ) {s : Shape} (read : read_due bytes room
   unfolding read_due
   told = accepted_value (shape_in bytes) (read_rules bytes room) s read
 
-  -- with an empty field it is the default mask
-  pub empty_mask : mask_said bytes ≡ 0 → (s.mask_rows ≡ default_mask_rows) × (s.mask_columns ≡ default_mask_columns)
+  -- with an empty field it is 1 by 7
+  pub empty_mask : mask_said bytes ≡ 0 → (s.mask_rows ≡ 1) × (s.mask_columns ≡ 7)
   empty_mask e = rw told (side_empty bytes e mask_rows_at default_mask_rows, side_empty bytes e mask_columns_at default_mask_columns)
 
   -- and else what the field states

@@ -14,12 +14,12 @@ use Rattle.record_format.specs.declared.Tag.{Tag}
 use Rattle.record_format.specs.declared.Tag.TheVariants as tags
 use Rattle.record_format.specs.Fields.{tag_byte, number_at, numbers_at}
 
--- "the default mask, 1 by 3"
+-- the default mask, as document 02, T-06, has it: "An 03 field of length 0 now means 1 by 7."
 abbrev pub default_mask_rows : ℕ
 default_mask_rows = 1
 
 abbrev pub default_mask_columns : ℕ
-default_mask_columns = 3
+default_mask_columns = 7
 
 -- What the bytes hold: field 01 stands at 0, 02 at 5, 03 at 12, each body three bytes further (`Layout.antt`).
 

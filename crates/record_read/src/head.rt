@@ -18,10 +18,10 @@ use refusal::limits::LONGEST_CYCLE;
 use refusal::{Refusal, refuse_if};
 use shape::{Shape, check_buffer, check_size};
 
-// The mask that an empty mask field means.
+// The mask that an empty mask field means: 1 by 7.
 const DEFAULT_MASK_ROWS: u32 = 1;
 
-const DEFAULT_MASK_COLUMNS: u32 = 3;
+const DEFAULT_MASK_COLUMNS: u32 = 7;
 
 // Field 01.
 #[tactic(auto, unfolding(refusal::specs::Outcome::first_due))]

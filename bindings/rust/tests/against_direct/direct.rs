@@ -312,7 +312,7 @@ impl Fields<'_> {
         let (rows, columns) = (u32::from(sizes[0]), u32::from(sizes[1]));
         test_sizes(rows, columns)?;
         let mask = self.take(3, &[0, 4])?;
-        let mask = if mask.is_empty() { vec![1, 3] } else { mask };
+        let mask = if mask.is_empty() { vec![1, 7] } else { mask };
         let shape = Shape { cycle, rows, columns, mask_rows: mask[0].into(), mask_columns: mask[1].into() };
         test_mask(shape)?;
         Ok(shape)

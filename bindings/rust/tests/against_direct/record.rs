@@ -210,17 +210,17 @@ fn written_records_read_back() {
     }
 }
 
-/// An empty field 03 stands for a mask of 1 by 3, which is tested like any other.
+/// An empty field 03 stands for a mask of 1 by 7, on rows of every length.
 #[test]
 fn default_mask() {
     let mut random = Random::seeded(34);
     let mut tally = Tally::of("default mask");
-    for columns in 1..=5 {
-        let shape = Shape { cycle: 8, rows: 2, columns, mask_rows: 1, mask_columns: 3 };
+    for columns in 1..=9 {
+        let shape = Shape { cycle: 8, rows: 2, columns, mask_rows: 1, mask_columns: 7 };
         let image = readings(&mut random, 8, 2 * columns as usize);
         let bytes = Lent::holding(&mut random, &direct::record(shape, &[], &image));
         let into = Lent::garbage(&mut random, image.len());
         assert_eq!(compare_read(&mut tally, &bytes, &into), Ok(shape));
     }
-    tally.must_have(&[0], 5);
+    tally.must_have(&[0], 9);
 }
