@@ -23,7 +23,7 @@ pub struct Case<'a> {
 
 impl<'a> Case<'a> {
     // The case of a line. A number that it lacks is 0.
-    pub fn parse(alloc: Global, line: &'a [u8]) -> Result<Case<'a>, AllocError> {
+    pub(crate) fn parse(alloc: Global, line: &'a [u8]) -> Result<Case<'a>, AllocError> {
         let (name, rest) = cases::split_once(line, b':');
         let (numbers, image) = cases::split_once(rest, b':');
         let mut sizes = [0; 9];
@@ -62,7 +62,7 @@ pub struct Lent {
 }
 
 impl Lent {
-    pub fn new(alloc: Global, output: usize, work: usize) -> Result<Lent, AllocError> {
+    pub(crate) fn new(alloc: Global, output: usize, work: usize) -> Result<Lent, AllocError> {
         Ok(Lent {
             output: vec![in alloc; OUTPUT_MARK; output]?,
             work: vec![in alloc; WORK_MARK; work]?,

@@ -68,12 +68,12 @@ impl<'a> Iterator for Cases<'a> {
 }
 
 impl<'a> Case<'a> {
-    pub fn readings(&self, alloc: Global) -> Result<Vec<u16>, AllocError> {
+    pub(crate) fn readings(&self, alloc: Global) -> Result<Vec<u16>, AllocError> {
         (0..self.area).map(|k| nth(self.numbers, k)).collect(alloc)
     }
 
     // The phase at a place of the range.
-    pub fn phase(&self, k: usize) -> u16 {
+    pub(crate) fn phase(&self, k: usize) -> u16 {
         nth(self.numbers, self.area.saturating_add(k))
     }
 
@@ -87,7 +87,7 @@ impl<'a> Case<'a> {
         blocks.saturating_mul(shape.columns as usize + 1)
     }
 
-    pub fn due(&self, engine: Engine) -> Result<Due, Refusal> {
+    pub(crate) fn due(&self, engine: Engine) -> Result<Due, Refusal> {
         let too_long = engine == Engine::Level && LEVEL_CYCLE < self.shape.cycle;
         refuse_if(too_long, Refusal::Cycle)?;
         Ok(Due {

@@ -25,7 +25,7 @@ fn work_garbage(place: usize, call: usize) -> u32 {
 
 impl Memory {
     // Garbage, which a call's index decides.
-    pub fn garbage(alloc: Global, call: usize) -> Result<Memory, AllocError> {
+    pub(crate) fn garbage(alloc: Global, call: usize) -> Result<Memory, AllocError> {
         Ok(Memory {
             output: (0..OUTPUT)
                 .map(|place| output_garbage(place, call))
@@ -37,7 +37,7 @@ impl Memory {
     }
 
     // This memory after a call of which so much is due.
-    pub fn after(&self, case: &Case, due: &Due) -> Result<Memory, AllocError> {
+    pub(crate) fn after(&self, case: &Case, due: &Due) -> Result<Memory, AllocError> {
         let mut output = self.output.clone()?;
         let mut work = self.work.clone()?;
         for (k, x) in output

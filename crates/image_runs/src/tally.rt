@@ -33,7 +33,7 @@ fn differences<T: PartialEq>(a: &[T], b: &[T]) -> usize {
 
 impl Tally {
     // Counts the answer of a call beside the one that is due.
-    pub fn add_answer(&mut self, answer: Result<(), Refusal>, due: Result<(), Refusal>) {
+    pub(crate) fn add_answer(&mut self, answer: Result<(), Refusal>, due: Result<(), Refusal>) {
         match answer {
             Ok(()) => add(&mut self.filtered, 1),
             Err(_) => add(&mut self.refused, 1),
@@ -44,7 +44,7 @@ impl Tally {
     }
 
     // Counts the numbers of the output beside those that are due.
-    pub fn add_output(&mut self, case: &Case, due: &Due, output: &[u16], expected: &[u16]) {
+    pub(crate) fn add_output(&mut self, case: &Case, due: &Due, output: &[u16], expected: &[u16]) {
         let phases = due.phases;
         let range = output.iter().enumerate().skip(due.start).take(phases);
         let moved = range.filter(|(place, x)| **x != nth(case.numbers, *place));
@@ -56,7 +56,7 @@ impl Tally {
     }
 
     // Counts the work numbers beside those that are due.
-    pub fn add_work(&mut self, due: &Due, work: &[u32], expected: &[u32]) {
+    pub(crate) fn add_work(&mut self, due: &Due, work: &[u32], expected: &[u32]) {
         add(&mut self.zeros, work.iter().filter(|x| **x == 0).count());
         add(&mut self.spared, work.len().saturating_sub(due.need));
         add(&mut self.differences, differences(work, expected));

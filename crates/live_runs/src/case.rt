@@ -52,7 +52,7 @@ fn forged<'a>(alloc: Global, line: &'a [u8]) -> Result<Case<'a>, AllocError> {
 
 impl<'a> Case<'a> {
     // The case of a line, if it is one. A number that it lacks is 0.
-    pub fn parse(alloc: Global, line: &'a [u8]) -> Result<Option<Case<'a>>, AllocError> {
+    pub(crate) fn parse(alloc: Global, line: &'a [u8]) -> Result<Option<Case<'a>>, AllocError> {
         let (head, wakes) = cases::split_once(line, b':');
         let mut numbers = [0; 2];
         cases::numbers(head, DECIMAL, &mut numbers);

@@ -101,7 +101,7 @@ fn compare_engine<W: Write>(
     compare(report, name, answers, &phases)
 }
 
-pub fn run<W: Write>(
+pub(crate) fn run<W: Write>(
     report: &mut Report<W>,
     alloc: Global,
     cycle: u32,

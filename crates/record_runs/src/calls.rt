@@ -26,7 +26,12 @@ fn kept<T: PartialEq + Copy>(memory: &[T], mark: T) -> &'static str {
 }
 
 // Reads a record with room for so many readings.
-pub fn read(out: &mut impl Write, alloc: Global, record: &[u8], room: usize) -> io::Result<()> {
+pub(crate) fn read(
+    out: &mut impl Write,
+    alloc: Global,
+    record: &[u8],
+    room: usize,
+) -> io::Result<()> {
     if MOST_READINGS < room {
         return writeln!(out, " NO ROOM");
     }
@@ -44,7 +49,7 @@ pub fn read(out: &mut impl Write, alloc: Global, record: &[u8], room: usize) -> 
 }
 
 // Writes a record with room for so many bytes, and reads back what was written.
-pub fn write(
+pub(crate) fn write(
     out: &mut impl Write,
     alloc: Global,
     shape: Shape,
@@ -74,7 +79,7 @@ pub fn write(
 }
 
 // Reads a record, and writes what was read.
-pub fn write_again(out: &mut impl Write, alloc: Global, record: &[u8]) -> io::Result<()> {
+pub(crate) fn write_again(out: &mut impl Write, alloc: Global, record: &[u8]) -> io::Result<()> {
     let mut buffer = vec![in alloc; READING_MARK; BACK]?;
     match record::read(record, &mut buffer) {
         Err(refusal) => writeln!(out, " {refusal}"),
@@ -86,7 +91,7 @@ pub fn write_again(out: &mut impl Write, alloc: Global, record: &[u8]) -> io::Re
 }
 
 // Reads the first bytes of a record.
-pub fn read_first(
+pub(crate) fn read_first(
     out: &mut impl Write,
     alloc: Global,
     lent: &Lent,
@@ -97,7 +102,7 @@ pub fn read_first(
 }
 
 // Reads a record with one byte changed.
-pub fn read_changed(
+pub(crate) fn read_changed(
     out: &mut impl Write,
     alloc: Global,
     lent: &Lent,

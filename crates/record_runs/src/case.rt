@@ -44,7 +44,7 @@ fn number(text: &[u8], base: u32) -> u32 {
 
 impl Lent {
     // The bytes before the first comma, and the number behind it.
-    pub fn parse(alloc: Global, text: &[u8]) -> Result<Lent, AllocError> {
+    pub(crate) fn parse(alloc: Global, text: &[u8]) -> Result<Lent, AllocError> {
         let (record, room) = cases::split_once(text, b',');
         Ok(Lent {
             record: cases::bytes(alloc, record, MOST_BYTES)?,
@@ -53,7 +53,7 @@ impl Lent {
     }
 
     // The last record that was read, after one case more.
-    pub fn after(self, case: Case) -> Lent {
+    pub(crate) fn after(self, case: Case) -> Lent {
         match case {
             Case::Read(lent) => lent,
             _case => self,
@@ -85,7 +85,7 @@ fn byte_case(text: &[u8]) -> Case {
 
 impl Case {
     // The case of a line, if it is one. A number that it lacks is 0.
-    pub fn parse(alloc: Global, line: &[u8]) -> Result<Option<Case>, AllocError> {
+    pub(crate) fn parse(alloc: Global, line: &[u8]) -> Result<Option<Case>, AllocError> {
         if let Some(text) = line.strip_prefix(b"read") {
             Ok(Some(Case::Read(Lent::parse(alloc, text)?)))
         } else if let Some(text) = line.strip_prefix(b"again") {
