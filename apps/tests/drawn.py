@@ -1,0 +1,80 @@
+"""A page as it was drawn, read back: its table, its strips and its dial, for the tests."""
+from __future__ import annotations
+
+import re
+import xml.etree.ElementTree as xml
+from typing import NamedTuple, Optional
+
+HTML = "{http://www.w3.org/1999/xhtml}"
+
+
+class Strip(NamedTuple):
+    """A strip: its line in runs of (wake, tick), its readings, and which wakes are marked as silent."""
+
+    line: list[list[tuple[int, int]]]
+    near: list[tuple[int, int]]
+    thrown: list[tuple[int, int]]
+    silent: list[tuple[float, float]]
+
+
+class Hands(NamedTuple):
+    """A label on the dial: its words, its kind and the angles of its hands in turns."""
+
+    words: str
+    kind: str
+    first: float
+    last: float
+    arc: Optional[str]
+
+
+class Page:
+    """A page, by the classes of its parts. It has to be XML."""
+
+    def __init__(self, text: str) -> None:
+        self.tree = xml.fromstring(text)
+
+    def by(self, tag: str, kind: str, within=None) -> list:
+        """The parts of a tag and a class."""
+        parts = (self.tree if within is None else within).iter(HTML + tag)
+        return [part for part in parts if kind in part.get("class", "").split()]
+
+    @staticmethod
+    def words(part) -> str:
+        """All text of a part."""
+        return "".join(part.itertext())
+
+    def rows(self) -> list[list[str]]:
+        """The table's cells, row by row."""
+        table = next(self.tree.iter(HTML + "tbody"))
+        return [[self.words(cell) for cell in row] for row in table]
+
+    def facts(self) -> list[str]:
+        """The lines under the title."""
+        return [self.words(item) for item in self.by("ul", "facts")[0]]
+
+    def strips(self) -> list[Strip]:
+        """The strips of all labels."""
+        return [self._strip(section) for section in self.by("section", "label")]
+
+    def _strip(self, section) -> Strip:
+        def d(kind: str) -> str:
+            return "".join(part.get("d") for part in self.by("path", kind, section))
+
+        def points(path: str) -> list[tuple[int, int]]:
+            return [(int(x), int(y)) for x, y in re.findall(r"[ML](-?\d+) (-?\d+)", path)]
+
+        silent = [(float(x), float(end)) for x, end in re.findall(r"M(-?[\d.]+) 0H([\d.]+)", d("silent"))]
+        return Strip([points("M" + run) for run in d("line").split("M")[1:]], points(d("near")), points(d("thrown")), silent)
+
+    def dial(self) -> list[Hands]:
+        """The labels on the dial."""
+        return [self._hands(part) for part in self.by("g", "hands")]
+
+    def _hands(self, part) -> Hands:
+        def turn(kind: str) -> float:
+            (hand,) = self.by("path", kind, part)
+            return float(re.fullmatch(r"rotate\((.*)\)", hand.get("transform"))[1]) / 360
+
+        arcs = [arc.get("d") for arc in self.by("path", "arc", part)]
+        kind = part.get("class").split()[1]
+        return Hands(self.words(part[0]), kind, turn("first"), turn("last"), arcs[0] if arcs else None)

@@ -1,0 +1,112 @@
+"""Tests of `picture` in a real browser: what it draws lies where the figures say, in the colours of the style.
+
+Usage, from the repository's root, once the shared library is there: python3 -m unittest discover apps/tests
+Without Chromium they are skipped; the figures on the page are compared in test_picture.py all the same.
+"""
+from __future__ import annotations
+
+import os
+import re
+import shutil
+import subprocess
+import tempfile
+import unittest
+
+from places import APPS, EXAMPLES
+
+from figures import Bench
+from page import page, refused_page
+from png import Picture
+import circle_median as cm
+import strip
+
+BROWSER = next(filter(None, map(shutil.which, ("chromium", "chromium-browser", "google-chrome"))), None)
+FLAGS = ["--headless", "--no-sandbox", "--disable-gpu", "--hide-scrollbars", "--force-device-scale-factor=1", "--force-color-profile=srgb"]
+DARK = "--blink-settings=preferredColorScheme=0"
+
+
+def styled(scheme: int) -> dict[str, tuple[int, int, int]]:
+    """The colours that the style names: of light backgrounds, dark ones or print."""
+    with open(os.path.join(APPS, "page.css"), encoding="utf-8") as file:
+        block = file.read().split(":root")[1 + scheme]
+    return {name: tuple(bytes.fromhex(value)) for name, value in re.findall(r"--(\w+): #(\w{6});", block)}
+
+
+@unittest.skipUnless(BROWSER, "no Chromium is installed")
+class Browser(unittest.TestCase):
+    """Pages as Chromium draws them."""
+
+    def drawn(self, text: str, width: int, height: int, *flags: str) -> Picture:
+        with tempfile.TemporaryDirectory() as folder:
+            source, shot = os.path.join(folder, "page.html"), os.path.join(folder, "page.png")
+            with open(source, "w", encoding="utf-8") as file:
+                file.write(text)
+            subprocess.run(
+                [BROWSER, *FLAGS, *flags, f"--user-data-dir={folder}/profile", f"--window-size={width},{height}", f"--screenshot={shot}",
+                 f"file://{source}"],
+                check=True, capture_output=True, timeout=120,
+            )
+            with open(shot, "rb") as file:
+                return Picture(file.read())
+
+    def bench(self, name: str, slot=None) -> Bench:
+        with open(os.path.join(EXAMPLES, f"{name}.record"), "rb") as file:
+            bench = Bench(file.read())
+        if slot:
+            bench.listen(*slot)
+        return bench
+
+    def test_examples_in_both_schemes(self):
+        """Each thing of the legend can be seen, and text on a background."""
+        for name, seen in (("shelf", ("line", "near", "thrown", "zero", "ahead", "back")), ("silent", ("line", "thrown", "silent")),
+                           ("paper", ("line", "thrown", "back")), ("pilot", ("line", "thrown"))):
+            text = page(self.bench(name, (1, 2)), name)
+            for scheme, flags in ((0, ()), (1, (DARK,))):
+                shot, due = self.drawn(text, 800, 1000, *flags), styled(scheme)
+                self.assertEqual(shot.pixel(3, 3), due["paper"], (name, scheme))
+                missing = {due[each] for each in (*seen, "ink")} - shot.colours()
+                self.assertEqual(missing, set(), (name, scheme))
+
+    def test_where_it_is_drawn(self):
+        """A strip alone, in its own units: the line and the readings are at their wakes and ticks, and silence below them."""
+        bench = self.bench("shelf")
+        for index in (0, 6):
+            label = bench.label(index)
+            shot, frame = self.alone(bench, index), strip.frame_of(bench, label)
+            for wake in range(5, bench.wakes, 40):
+                self.near(shot, frame.x(wake), frame.y(label.unrolled[wake]), "line", (index, wake))
+            for wake in label.thrown:
+                self.near(shot, frame.x(wake), frame.y(label.placed[wake]), "thrown", (index, wake))
+
+    def test_silence(self):
+        bench = self.bench("silent")
+        label, shot = bench.label(0), self.alone(bench, 0)
+        frame, paper = strip.frame_of(bench, label), styled(0)["paper"]
+        for wake, at in enumerate(label.placed):
+            if at is None:
+                self.near(shot, frame.x(wake), frame.bottom + 3, "silent", wake)
+            else:
+                self.assertEqual(shot.pixel(round(frame.x(wake)), round(frame.bottom + 3)), paper)
+        gap = label.unrolled.index(None)
+        column = {shot.pixel(round(frame.x(gap)), y) for y in range(round(frame.bottom))}
+        self.assertNotIn(styled(0)["line"], column)
+
+    def alone(self, bench: Bench, index: int) -> Picture:
+        """The picture of a strip, a pixel to each of its units."""
+        with open(os.path.join(APPS, "page.css"), encoding="utf-8") as file:
+            style = file.read()
+        body = f"<style>{style} body {{ margin: 0; padding: 0; max-width: none; }}</style>{strip.strip(bench, bench.label(index))}"
+        return self.drawn(f"<!DOCTYPE html><html><body>{body}</body></html>", strip.WIDTH, 440)
+
+    def near(self, shot: Picture, x: float, y: float, name: str, where: object) -> None:
+        """A colour of the style lies within two pixels of a place."""
+        spots = ((i, j) for i in range(round(x) - 2, round(x) + 3) for j in range(round(y) - 2, round(y) + 3))
+        self.assertIn(styled(0)[name], {shot.pixel(min(i, shot.width - 1), min(j, shot.height - 1)) for i, j in spots}, where)
+
+    def test_refused(self):
+        shot = self.drawn(refused_page(cm.Refused(9, 3), "bad.record"), 600, 300)
+        self.assertLessEqual({styled(0)["ink"], styled(0)["paper"]}, shot.colours())
+
+
+if __name__ == "__main__":
+    unittest.main()

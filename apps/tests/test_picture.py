@@ -1,0 +1,282 @@
+"""Tests of `picture`: each figure on the page is the library's, and every point that is drawn is one of the record.
+
+Usage, from the repository's root, once the shared library is there: python3 -m unittest discover apps/tests
+"""
+from __future__ import annotations
+
+import math
+import os
+import random
+import re
+import subprocess
+import sys
+import unittest
+from array import array
+
+from places import APPS, ENVIRONMENT, EXAMPLES
+
+import circle_median as cm
+import reference as ref
+import strip
+from drawn import Page
+from figures import Bench, usual_limit
+from page import page, refused_page
+
+SILENT = cm.SILENT
+
+
+def drawn_record(chance, labels=None, wakes=None):
+    """A record with labels that creep, are thrown and fall silent, on a short or a long cycle."""
+    c = chance.choice((1, 2, 7, 8, 9, 97, 360, 512, 4096, 65535))
+    m, n = labels or chance.randint(1, 5), wakes or chance.randint(1, 40)
+    silent, noise = chance.choice((0, 0.1, 0.6)), chance.choice((0, 0.2, 1))
+    image = array("H")
+    for _ in range(m):
+        start, pace, quiet = chance.randrange(c), chance.choice((0, 0, 1, -1)) * c / chance.randint(2, 40), chance.random() < 0.1
+        for wake in range(n):
+            thrown = chance.random() < noise
+            tick = chance.randrange(c) if thrown else round(start + pace * wake) % c
+            image.append(SILENT if quiet or chance.random() < silent else tick)
+    mask = chance.choice(((1, 1), (1, 3), (3, 3), (1, 15)))
+    return cm.write_record(image, c, mask, (m, n))
+
+
+class Figures(unittest.TestCase):
+    """Pages of random records beside the library and the reference."""
+
+    def test_200_records(self):
+        chance = random.Random(1)
+        for k in range(200):
+            data = drawn_record(chance)
+            cycle = cm.read_record(data).cycle
+            thrown, drift = (chance.choice((None, chance.randint(0, cycle))) for _ in range(2))
+            bench = Bench(data, thrown, drift)
+            if chance.random() < 0.5:
+                bench.listen(chance.randrange(cycle), chance.randrange(cycle))
+            self.check(Page(page(bench, f"record {k}")), data, bench.limits)
+
+    def check(self, drawn, data, limits):
+        record = cm.read_record(data)
+        filtered = cm.filter(*record)
+        (m, n), c, shape = record.size, record.cycle, (record.cycle, *record.size, *record.mask)
+        self.assertEqual(filtered.tolist(), ref.filtered(shape, 0, m, record.readings.tolist(), [0] * m * n))
+        rows, strips, dial = drawn.rows(), drawn.strips(), {hands.words.partition(":")[0]: hands for hands in drawn.dial()}
+        self.assertEqual((len(rows), len(strips)), (m, m))
+        for i in range(m):
+            raw, phases = record.readings[i * n:(i + 1) * n].tolist(), filtered[i * n:(i + 1) * n].tolist()
+            self.check_row(rows[i], i, c, raw, phases, limits)
+            self.check_strip(strips[i], c, raw, phases, limits)
+            self.check_dial(dial.get(f"label {i}"), i, c, phases, limits)
+
+    def check_row(self, row, i, c, raw, phases, limits):
+        heard = ref.heard(phases)
+        drift = cm.drift(c, array("H", phases))
+        self.assertEqual(drift, ref.drift(c, phases))
+        far = [k for k, (x, p) in enumerate(zip(raw, phases)) if x != SILENT and cm.distance(c, x, p) > limits.thrown]
+        mark = "" if abs(drift) <= limits.drift else "\u25b2 ahead" if drift > 0 else "\u25bc back"
+        due = [i, *((heard[0], heard[-1]) if heard else "--"), drift, mark, len(far), raw.count(SILENT)]
+        if limits.slot:
+            out = [k for k, p in enumerate(phases) if p != SILENT and not cm.slot(c, p, *limits.slot)]
+            self.assertEqual(out, [k for k, p in enumerate(phases) if p != SILENT and not ref.in_slot(c, p, *limits.slot)])
+            due += [len(out), out[0] if out else "-"]
+        self.assertEqual(row, [str(cell) for cell in due])
+
+    def check_strip(self, drawn, c, raw, phases, limits):
+        """Every wake is drawn here: the line through all filtered phases, and each reading where it was heard."""
+        line = dict(point for run in drawn.line for point in run)
+        self.assertEqual({wake: at % c for wake, at in line.items()}, {k: p for k, p in enumerate(phases) if p != SILENT})
+        heard = sorted(line)
+        for a, b in zip(heard, heard[1:]):
+            self.assertEqual(line[b] - line[a], cm.step(c, phases[a], phases[b]))
+        if heard:
+            self.assertEqual(line[heard[0]], phases[heard[0]])
+            self.assertEqual(line[heard[-1]] - line[heard[0]], cm.drift(c, array("H", phases)))
+        for run in drawn.line:
+            self.assertEqual([wake for wake, _ in run], list(range(run[0][0], run[-1][0] + 1)))
+        for a, b in zip(drawn.line, drawn.line[1:]):
+            self.assertGreater(b[0][0], a[-1][0] + 1)
+        dots = dict(drawn.near + drawn.thrown)
+        self.assertEqual(len(dots), len(drawn.near) + len(drawn.thrown))
+        self.assertEqual({wake: at % c for wake, at in dots.items()}, {k: x for k, x in enumerate(raw) if x != SILENT})
+        for wake, at in dots.items():
+            self.assertEqual(at - line[wake], cm.step(c, phases[wake], raw[wake]))
+            self.assertEqual(abs(at - line[wake]), cm.distance(c, phases[wake], raw[wake]))
+        far = {wake for wake, at in dots.items() if abs(at - line[wake]) > limits.thrown}
+        self.assertEqual({wake for wake, _ in drawn.thrown}, far)
+        quiet = [wake for begin, end in drawn.silent for wake in range(math.ceil(begin), math.ceil(end))]
+        self.assertEqual(quiet, [wake for wake, x in enumerate(raw) if x == SILENT])
+
+    def check_dial(self, hands, i, c, phases, limits):
+        heard = ref.heard(phases)
+        if not heard:
+            self.assertIsNone(hands)
+            return
+        drift = cm.drift(c, array("H", phases))
+        self.assertEqual(hands.words, f"label {i}: first {heard[0]}, last {heard[-1]}, drift {drift}")
+        self.assertEqual((round(hands.first * c, 4), round(hands.last * c, 4)), (heard[0], heard[-1]))
+        self.assertEqual(hands.kind, "steady" if abs(drift) <= limits.drift else "ahead" if drift > 0 else "back")
+        self.assertEqual(hands.arc is None, drift == 0)
+        if hands.arc:
+            self.check_arc(hands, c, drift)
+
+    def check_arc(self, hands, c, drift):
+        """The arc goes from the first to the last hand, through the drift, or through the last turns of a long one."""
+        points = [tuple(map(float, point.split())) for point in hands.arc[1:].split("L")]
+        turns = [math.atan2(x, -y) / math.tau for x, y in points]
+        swept = sum((b - a + 0.5) % 1 - 0.5 for a, b in zip(turns, turns[1:]))
+        self.assertAlmostEqual((turns[-1] - hands.last + 0.5) % 1 - 0.5, 0, places=3)
+        self.assertAlmostEqual(swept, max(-8, min(8, drift / c)), places=3)
+
+
+class Thinned(unittest.TestCase):
+    """Long records and large racks, of which not every point is drawn."""
+
+    def check(self, data):
+        bench = Bench(data)
+        bins = strip.bins_of(bench)
+        self.assertLess(bins, bench.wakes)
+        drawn = Page(page(bench, "long"))
+        self.assertIn(f"strips draw the wakes in {bins:,} groups; every figure counts every wake", drawn.facts())
+        points = 0
+        for index, (row, said) in enumerate(zip(drawn.rows(), drawn.strips())):
+            label = bench.label(index)
+            self.assertEqual(row[5:], [str(len(label.thrown)), str(label.silent)])
+            line = dict(point for run in said.line for point in run)
+            self.assertTrue(all(label.unrolled[wake] == at for wake, at in line.items()))
+            self.assertTrue(all(label.placed[wake] == at for wake, at in said.near + said.thrown))
+            self.assertLessEqual({wake for wake, _ in said.thrown}, label.thrown)
+            self.check_outline(bench, label, line, bins)
+            points += len(line) + len(said.near) + len(said.thrown)
+        return points
+
+    def check_outline(self, bench, label, line, bins):
+        """In each bin the line goes as low and as high as the phases do, to half of the strip's unit."""
+        unit = 0.5 / strip.frame_of(bench, label).tick + 1e-9
+        whole, seen = {}, {}
+        for some, into in ((enumerate(label.unrolled), whole), (line.items(), seen)):
+            for wake, at in some:
+                if at is not None:
+                    low, high = into.get(wake * bins // bench.wakes, (at, at))
+                    into[wake * bins // bench.wakes] = min(low, at), max(high, at)
+        self.assertEqual(whole.keys(), seen.keys())
+        for each, (low, high) in whole.items():
+            self.assertLessEqual(seen[each][0] - low, 2 * unit)
+            self.assertLessEqual(high - seen[each][1], 2 * unit)
+
+    def test_8192_wakes(self):
+        chance = random.Random(2)
+        for _ in range(3):
+            self.check(drawn_record(chance, 3, 8192))
+
+    def test_1024_labels(self):
+        points = self.check(drawn_record(random.Random(4), 1024, 300))
+        self.assertLess(points, 1_000_000)
+
+    def test_the_dial_has_those_that_drift_most(self):
+        rows = [array("H", [0] * 8 + [k] * 8) for k in range(100)]
+        data = cm.write_record(array("H", b"".join(row.tobytes() for row in rows)), 360, (1, 1), (100, 16))
+        drawn = Page(page(Bench(data), "rack"))
+        self.assertEqual({hands.words.partition(":")[0] for hands in drawn.dial()}, {f"label {k}" for k in range(52, 100)})
+        self.assertIn("the dial has the 48 labels that drift most", [drawn.words(part) for part in drawn.by("p", "facts")])
+        self.assertEqual(len(drawn.rows()), 100)
+
+
+class Text(unittest.TestCase):
+    """What the page says besides."""
+
+    def example(self, name):
+        with open(os.path.join(EXAMPLES, f"{name}.record"), "rb") as file:
+            return file.read()
+
+    def test_thresholds_are_printed(self):
+        bench = Bench(self.example("shelf"), 12, 7)
+        bench.listen(350, 20)
+        self.assertEqual(Page(page(bench, "x")).facts(), [
+            "thrown: a reading more than 12 ticks from its filtered phase (--thrown 12)",
+            "drifting: by more than 7 ticks ahead or back (--drift 7)",
+            "listening slot: from tick 350 to tick 10, 20 ticks wide (--slot 350,20)",
+        ])
+        self.assertEqual([usual_limit(c) for c in (1, 8, 36, 37, 360, 65535)], [1, 1, 1, 2, 10, 1821])
+
+    def test_one_file(self):
+        """Nothing is taken from elsewhere, there is no script, and it is XML also with marks in its title."""
+        title = "<a> & 'b' \"c\""
+        text = page(Bench(self.example("shelf")), title)
+        self.assertEqual(Page(text).words(next(Page(text).tree.iter("{http://www.w3.org/1999/xhtml}h1"))), title)
+        for word in ("<script", "src=", "url(", "@import", "<link", "<iframe"):
+            self.assertNotIn(word, text)
+        self.assertEqual(set(re.findall(r"https?://[^\"' ]*", text)), {"http://www.w3.org/1999/xhtml"})
+
+    def test_axes(self):
+        """Marks of both axes are ticks of the cycle and wakes, none on another, with their units."""
+        for cycle, wakes in ((1, 1), (7, 2), (8, 5), (9, 40), (97, 300), (360, 960), (4096, 8192), (65535, 8192)):
+            image = array("H", (k * 7 % cycle for k in range(wakes)))
+            drawn = Page(page(Bench(cm.write_record(image, cycle, (1, 1))), "x"))
+            (section,) = drawn.by("section", "label")
+            marks = [(part, drawn.words(part)) for part in drawn.by("text", "mark", section)]
+            self.assertEqual({words for part, words in marks if "unit" in part.get("class")}, {"tick", "wake"})
+            for axis, kind, apart in (("y", "right", 11), ("x", "middle", 40)):
+                some = [(float(part.get(axis)), int(words)) for part, words in marks if part.get("class") == f"mark {kind}"]
+                self.assertTrue(some)
+                self.assertTrue(all(0 <= n < (cycle if axis == "y" else wakes) for _, n in some))
+                places = sorted(place for place, _ in some)
+                self.assertTrue(all(b - a >= apart for a, b in zip(places, places[1:])), (cycle, wakes, places))
+
+    def test_refused_page(self):
+        drawn = Page(refused_page(cm.Refused(12, 7), "bad"))
+        self.assertEqual(drawn.rows(), [["number", "12"], ["place", "7"], ["reason", "a length is not the one due"]])
+
+
+class Program(unittest.TestCase):
+    """`picture` as it is called."""
+
+    def run_it(self, *arguments, data=b""):
+        run = subprocess.run(
+            [sys.executable, os.path.join(APPS, "picture.py"), *arguments], input=data, capture_output=True, env=ENVIRONMENT,
+        )
+        return run.returncode, run.stdout.decode(), run.stderr.decode()
+
+    def test_examples(self):
+        for name in sorted(os.listdir(EXAMPLES)):
+            if name.endswith(".record"):
+                status, text, trouble = self.run_it(os.path.join(EXAMPLES, name))
+                self.assertEqual((status, trouble), (0, ""))
+                drawn = Page(text)
+                self.assertEqual(drawn.words(next(drawn.tree.iter("{http://www.w3.org/1999/xhtml}h1"))), name)
+        self.assertEqual([row[3] for row in drawn.rows()], ["-6"])
+
+    def test_shelf(self):
+        _, text, _ = self.run_it("--slot", "80,40", "--title", "the shelf", os.path.join(EXAMPLES, "shelf.record"))
+        drawn = Page(text)
+        self.assertEqual([row[3] for row in drawn.rows()], ["0", "40", "1", "-40", "38", "-39", "397", "60"])
+        self.assertEqual([row[0] for row in drawn.rows() if row[4]], ["1", "3", "4", "5", "6", "7"])
+        self.assertEqual([row[0] for row in drawn.rows() if row[7] == "0"], ["0"])
+
+    def test_refused(self):
+        status, text, trouble = self.run_it(data=b"\1\0\2\0\0")
+        self.assertEqual((status, trouble), (3, "picture: standard input: refused 1: the cycle is 0 or longer than the call takes\n"))
+        self.assertEqual(Page(text).rows(), [["number", "1"], ["place", "0"], ["reason", cm.Refused(1).reason]])
+
+    def test_wrong(self):
+        shelf = os.path.join(EXAMPLES, "shelf.record")
+        help_says = "picture --help says how it is called"
+        tick = "a reading is neither below the cycle nor silent, or an argument is not below the cycle"
+        for arguments, status, due in (
+            (("no.record",), 1, "no.record cannot be read: No such file or directory"),
+            (("--slot", "360,0", shelf), 1, f"--slot 360,0: refused 9 at 1: {tick}"),
+            (("--slot", "0,360", shelf), 1, f"--slot 0,360: refused 9 at 2: {tick}"),
+            (("--slot", "80", shelf), 2, f"argument --slot: '80' is not of the form 350,20, start and width; {help_says}"),
+            (("--thrown", "-1", shelf), 2, f"argument --thrown: '-1' is no number of ticks; {help_says}"),
+            (("--drift=x", shelf), 2, f"argument --drift: 'x' is no number of ticks; {help_says}"),
+            ((shelf, shelf), 2, f"unrecognized arguments: {shelf}; {help_says}"),
+        ):
+            self.assertEqual(self.run_it(*arguments), (status, "", f"picture: {due}\n"))
+
+    def test_help(self):
+        status, said, _ = self.run_it("--help")
+        self.assertEqual(status, 0)
+        self.assertIn("picture --slot 80,40 bench.record > bench.html", said)
+
+
+if __name__ == "__main__":
+    unittest.main()

@@ -1,0 +1,186 @@
+"""Tests of `record`: tables that are made into records and back, beside the reference and the sheet program, and what is refused.
+
+Usage, from the repository's root, once the shared library is there: python3 -m unittest discover apps/tests
+"""
+from __future__ import annotations
+
+import os
+import random
+import subprocess
+import sys
+import unittest
+
+from places import APPS, ENVIRONMENT, EXAMPLES, SHEET
+
+import record
+import reference as ref
+import table
+
+SILENT = 65535
+SPARE = 10**10
+
+
+def drawn(chance):
+    """A table of ticks, None where a wake was silent, with its cycle and mask."""
+    c = chance.choice((1, 2, 8, 360, 65535, chance.randint(1, 65535)))
+    m, n = chance.choice(((1, 1), (1, chance.randint(1, 30)), (chance.randint(1, 30), 1), (chance.randint(1, 8), chance.randint(1, 12))))
+    silent = chance.choice((0, 0.1, 0.5, 1))
+    rows = [[None if chance.random() < silent else chance.randrange(c) for _ in range(n)] for _ in range(m)]
+    return c, tuple(chance.choice((1, 3, 7, 255)) for _ in range(2)), rows
+
+
+def plain(rows):
+    """The table as `record show` writes it."""
+    return "".join(",".join("-" if x is None else str(x) for x in row) + "\n" for row in rows).encode()
+
+
+def varied(chance, rows):
+    """The table as some spreadsheet might write it."""
+    separator, end = chance.choice((",", ";", "\t")), chance.choice(("\n", "\r\n"))
+    empty = "" if len(rows[0]) > 1 else '""'
+
+    def cell(x):
+        word = chance.choice((empty, "-", " - ", '"-"')) if x is None else chance.choice((str(x), f" {x}", f'"{x}"', f"{x:06}"))
+        return word if separator != "\t" else word.strip()
+
+    text = end.join(separator.join(map(cell, row)) for row in rows)
+    last = end * chance.choice((0, 1) if len(rows[0]) == 1 else (0, 1, 3))
+    return (chance.choice(("", "\ufeff")) + text + last).encode()
+
+
+class RoundTrip(unittest.TestCase):
+    """Tables that are made into records."""
+
+    def test_thousands(self):
+        chance = random.Random(1)
+        for _ in range(4000):
+            c, mask, rows = drawn(chance)
+            data = record.make(chance.choice((plain(rows), varied(chance, rows))), c, mask)
+            due = [SILENT if x is None else x for row in rows for x in row]
+            self.assertEqual(ref.read_record(data, SPARE), (c, len(rows), len(rows[0]), *mask, due))
+            self.assertEqual(record.show(data), plain(rows))
+
+    @unittest.skipUnless(os.access(SHEET, os.X_OK), "the sheet program is not built")
+    def test_beside_the_sheet_program(self):
+        """With a mask of 1 by 1 the sheet has the readings themselves."""
+        chance = random.Random(2)
+        for _ in range(1000):
+            c, _, rows = drawn(chance)
+            data = record.make(varied(chance, rows), c, (1, 1))
+            sheet = subprocess.run([SHEET], input=data, capture_output=True, check=True).stdout.decode().splitlines()
+            self.assertEqual(sheet[0], f"cycle {c} rows {len(rows)} columns {len(rows[0])} mask 1 1")
+            read = [line[line.index(":") + 1:line.index(" drift")].split() for line in sheet[1:]]
+            self.assertEqual("".join(",".join(row) + "\n" for row in read).encode(), record.show(data))
+
+    def test_largest(self):
+        rows = [[(j * 7 + i) % 65535 for j in range(8192)] for i in range(1024)]
+        data = plain(rows)
+        self.assertEqual(record.show(record.make(data, 65535, (1, 7))), data)
+
+    def test_usual_mask(self):
+        self.assertEqual(record.usual_mask(), ref.DEFAULT_MASK)
+
+
+class Wrong(unittest.TestCase):
+    """Tables that are no records."""
+
+    def refused(self, data, due, c=360, mask=(1, 15)):
+        with self.assertRaises(table.BadTable) as caught:
+            record.make(data, c, mask)
+        self.assertEqual(str(caught.exception), due)
+
+    def test_cells(self):
+        self.refused(b"1,2\n3,4\n5,360\n", "line 3, column 2: 360 is no tick of a cycle of 360")
+        self.refused(b"0,1,2,3,4,5,360", "line 1, column 7: 360 is no tick of a cycle of 360")
+        self.refused(b"1;65535\n", "line 1, column 2: 65535 is no tick of a cycle of 360")
+        self.refused(b"65536\n", "line 1, column 1: 65536 is no tick of a cycle of 65535", 65535)
+        self.refused(b"1\t" + b"9" * 5000, "line 1, column 2: 99999999999999999999.. is no tick of a cycle of 360")
+        for word in ("-1", "+1", "1.0", "1e2", "x", "--", "0x10", "1_0", "\u0663", "\u2212", "1 2", "NaN"):
+            self.refused(
+                f"1,2\n3,{word}\n".encode(), f"line 2, column 2: {word!r} is neither a whole number nor a silent wake, -",
+            )
+
+    def test_rows(self):
+        self.refused(b"1,2\n3\n", "line 2: 1 cells, where line 1 has 2")
+        self.refused(b"1,2\n3,4,\n", "line 2: 3 cells, where line 1 has 2")
+        self.refused(b"1;2\n3,4\n", "line 2: 1 cells, where line 1 has 2")
+        self.refused(b"", "line 1: the table is empty")
+        self.refused(b"\n\n", "line 1: the table is empty")
+        self.refused(b"\n1,2\n", "line 1 is empty; a wake that was silent can be written as a -")
+        self.refused(b"1,2\n\n3,4\n", "line 2 is empty; a wake that was silent can be written as a -")
+        self.refused(b"1\n2\n\n", "line 3 is empty; a wake that was silent can be written as a -")
+        self.assertEqual(record.make(b"1,2\n\n\n", 8, (1, 3)), record.make(b"1,2", 8, (1, 3)))
+
+    def test_texts(self):
+        self.refused("1,2\n".encode("utf-16"), "line 1: this is no text in UTF-8; let the spreadsheet write CSV in UTF-8")
+        self.refused(b"1,2\n3,\xe9\n", "line 2: this is no text in UTF-8; let the spreadsheet write CSV in UTF-8")
+        self.refused(b'1,2\n3,"4\n', "line 2: unexpected end of data")
+        self.refused(b'1,2\n3,"4"4\n', "line 2: ',' expected after '\"'")
+
+    def test_options(self):
+        self.refused(b"0\n", "--cycle 0: refused 1: the cycle is 0 or longer than the call takes", 0)
+        self.refused(b"0\n", "--cycle -8: refused 1: the cycle is 0 or longer than the call takes", -8)
+        self.refused(b"0\n", "--cycle 4294967304: refused 1: the cycle is 0 or longer than the call takes", 2**32 + 8)
+        reason = "refused 3: a mask side is even, 0 or above 255, or a live window's length even, 0 or above 63"
+        self.refused(b"0\n", f"--mask 1x4: {reason}", 8, (1, 4))
+        reason = "refused 2: rows outside 1 to 1024, or columns or a row's readings outside 1 to 8192"
+        self.refused(b"0\n" * 1025, f"1025 labels by 1 wakes: {reason}")
+        self.refused(b"0" + b",0" * 8192, f"1 labels by 8193 wakes: {reason}")
+
+
+class Program(unittest.TestCase):
+    """`record` as it is called."""
+
+    def run_it(self, *arguments, data=b""):
+        run = subprocess.run(
+            [sys.executable, os.path.join(APPS, "record.py"), *arguments], input=data, capture_output=True, env=ENVIRONMENT,
+        )
+        return run.returncode, run.stdout, run.stderr.decode()
+
+    def test_made_and_shown(self):
+        paper = os.path.join(EXAMPLES, "paper.record")
+        with open(paper, "rb") as file:
+            due = file.read()
+        self.assertEqual(self.run_it("show", paper), (0, b"1,4,1,7,7\n", ""))
+        self.assertEqual(self.run_it("show", data=due), (0, b"1,4,1,7,7\n", ""))
+        self.assertEqual(self.run_it("make", "--cycle", "8", "--mask", "1x3", data=b"1,4,1,7,7\n"), (0, due, ""))
+        self.assertEqual(self.run_it("make", "--cycle=8", "--mask=1X3", "-", data=b"1,4,1,7,7\n"), (0, due, ""))
+        status, usual, _ = self.run_it("make", "--cycle", "8", data=b"1,4,1,7,7\n")
+        self.assertEqual((status, ref.read_record(usual, 5)[3:5]), (0, ref.DEFAULT_MASK))
+
+    def test_wrong(self):
+        for arguments, data, status, due in (
+            (("make", "--cycle", "8"), b"1,8\n", 1, "standard input: line 1, column 2: 8 is no tick of a cycle of 8"),
+            (("make", "--cycle", "8", "no.csv"), b"", 1, "no.csv cannot be read: No such file or directory"),
+            (("make", "--cycle", "8", "/"), b"", 1, "/ cannot be read: Is a directory"),
+            (("show", "no.record"), b"", 1, "no.record cannot be read: No such file or directory"),
+            (("show",), b"\1\0\2", 1, "standard input: refused 10 at 0: the record ends within a field"),
+            (("show",), b"", 1, "standard input: refused 10 at 0: the record ends within a field"),
+            (("make",), b"1\n", 2, "the following arguments are required: --cycle; record make --help says how it is called"),
+            (("make", "--cycle", "x"), b"1\n", 2, "argument --cycle: invalid int value: 'x'; record make --help says how it is called"),
+            (("make", "--cycle", "8", "--mask", "15"), b"1\n", 2,
+             "argument --mask: '15' is not of the form 1x15, rows by wakes; record make --help says how it is called"),
+            ((), b"", 2, "the following arguments are required: make|show; record --help says how it is called"),
+        ):
+            self.assertEqual(self.run_it(*arguments, data=data), (status, b"", f"record: {due}\n"))
+
+    def test_full_disk(self):
+        if not os.path.exists("/dev/full"):
+            self.skipTest("there is no /dev/full")
+        with open("/dev/full", "wb") as full:
+            run = subprocess.run(
+                [sys.executable, os.path.join(APPS, "record.py"), "show", os.path.join(EXAMPLES, "paper.record")],
+                stdout=full, stderr=subprocess.PIPE, env=ENVIRONMENT,
+            )
+        self.assertEqual((run.returncode, run.stderr), (1, b"record: standard output cannot be written: No space left on device\n"))
+
+    def test_help(self):
+        for arguments, due in (((), b"make|show"), (("make",), b"record make --cycle 360 --mask 1x15 readings.csv > bench.record"),
+                               (("show",), b"record show bench.record > readings.csv")):
+            status, said, trouble = self.run_it(*arguments, "--help")
+            self.assertEqual((status, trouble), (0, ""))
+            self.assertIn(due, said)
+
+
+if __name__ == "__main__":
+    unittest.main()
