@@ -58,14 +58,15 @@ class Browser(unittest.TestCase):
 
     def test_examples_in_both_schemes(self):
         """Each thing of the legend can be seen, and text on a background."""
-        for name, seen in (("shelf", ("line", "near", "thrown", "zero", "ahead", "back")), ("silent", ("line", "thrown", "silent")),
-                           ("paper", ("line", "thrown", "back")), ("pilot", ("line", "thrown"))):
-            text = page(self.bench(name, (1, 2)), name)
-            for scheme, flags in ((0, ()), (1, (DARK,))):
-                shot, due = self.drawn(text, 800, 1000, *flags), styled(scheme)
-                self.assertEqual(shot.pixel(3, 3), due["paper"], (name, scheme))
-                missing = {due[each] for each in (*seen, "ink")} - shot.colours()
-                self.assertEqual(missing, set(), (name, scheme))
+        light, dark = (0, ()), (1, (DARK,))
+        for name, (scheme, flags), seen in (
+            ("shelf", light, ("line", "near", "thrown", "zero", "ahead", "back")), ("shelf", dark, ("line", "near", "thrown", "ahead", "back")),
+            ("silent", light, ("line", "thrown", "silent")), ("paper", dark, ("line", "thrown", "back")), ("pilot", light, ("line", "thrown")),
+        ):
+            shot, due = self.drawn(page(self.bench(name, (1, 2)), name), 1120, 900, *flags), styled(scheme)
+            self.assertEqual(shot.pixel(3, 3), due["paper"], (name, scheme))
+            missing = {due[each] for each in (*seen, "ink")} - shot.colours()
+            self.assertEqual(missing, set(), (name, scheme))
 
     def test_where_it_is_drawn(self):
         """A strip alone, in its own units: the line and the readings are at their wakes and ticks, and silence below them."""
