@@ -5,14 +5,19 @@ A record is written and read by the proved library, which decides what is refuse
 from __future__ import annotations
 
 import argparse
-from typing import NoReturn
 
 import circle_median
 import table
-from common import Parser, given, name, sides, stop, taken
+from circle_median import SILENT, Record, Refused
+from common import Parser, given, name, named, pair, run, say, stop, taken, told, whole
+from drawing import count
 
-# The numbers of the refusals that speak of an option or of a cell.
+# The numbers of the refusals that speak of an option, of the size or of a cell.
 CYCLE, SIZE, MASK, READING = 1, 2, 3, 9
+
+
+class BadOption(ValueError):
+    """What is wrong with an option."""
 
 
 def usual_mask() -> tuple[int, int]:
@@ -21,21 +26,24 @@ def usual_mask() -> tuple[int, int]:
 
 
 def make(data: bytes, cycle: int, mask: tuple[int, int]) -> bytes:
-    """The record of a table; a BadTable or a ValueError that says what is wrong."""
+    """The record of a table; a BadTable or a BadOption says what is wrong."""
     parsed = table.parse(data, cycle)
     try:
         return circle_median.write_record(parsed.readings, cycle, mask, parsed.size)
-    except circle_median.Refused as refused:
-        raise table.BadTable(_why(refused, parsed, cycle, mask)) from None
+    except Refused as refused:
+        raise _why(refused, parsed, cycle, mask) from None
 
 
-def _why(refused: circle_median.Refused, parsed: table.Table, cycle: int, mask: tuple[int, int]) -> str:
+def _why(refused: Refused, parsed: table.Table, cycle: int, mask: tuple[int, int]) -> ValueError:
     """A refusal in terms of the options and the table."""
+    if refused.number == CYCLE:
+        return BadOption(f"--cycle {cycle}: {refused}")
+    if refused.number == MASK:
+        return BadOption(f"--mask {mask[0]}x{mask[1]}: {refused}")
     if refused.number == READING:
-        return f"{parsed.place(refused.place)}: {table.no_tick(parsed.readings[refused.place], cycle)}"
-    (rows, columns), (high, long) = parsed.size, mask
-    about = {CYCLE: f"--cycle {cycle}: ", SIZE: f"{rows} labels by {columns} wakes: ", MASK: f"--mask {high}x{long}: "}
-    return f"{about.get(refused.number, '')}{refused}"
+        return table.BadTable(f"{parsed.place(refused.place)}: {table.no_tick(parsed.readings[refused.place], cycle)}")
+    labels, wakes = parsed.size
+    return table.BadTable(f"{count(labels, 'label')} by {count(wakes, 'wake')}: {refused}")
 
 
 def show(data: bytes) -> bytes:
@@ -44,8 +52,40 @@ def show(data: bytes) -> bytes:
     return table.write(record.readings, record.size[1])
 
 
+def summary(record: Record) -> str:
+    """What a record holds, with the options that make it of its table."""
+    (labels, wakes), (rows, columns) = record.size, record.mask
+    silent = record.readings.count(SILENT)
+    return f"{count(labels, 'label')} by {count(wakes, 'wake')}, {silent:,} silent, --cycle {record.cycle} --mask {rows}x{columns}"
+
+
 def _mask(text: str) -> tuple[int, int]:
-    return sides(text, "x", "1x15, rows by wakes")
+    return pair(text, "x", "1x15, rows by wakes")
+
+
+def _maker(maker: argparse.ArgumentParser) -> None:
+    maker.formatter_class = argparse.RawDescriptionHelpFormatter
+    maker.description = """Makes a record of a table in CSV, in UTF-8: a row to a label, at most 1,024, a column to a wake, at most 8,192, and no
+row of names or column of names besides. A cell has the wake's tick, from 0 to C - 1, and nothing or a - where the label was not heard.
+Cells stand between commas, semicolons or tabs and may be quoted. Empty lines at the end are passed over, but in a table of one column,
+where each silent wake has to be a -.
+
+The record goes to standard output, and nothing does on an error; how many labels, wakes and silent wakes it has is told besides."""
+    maker.epilog = "example:\n  %(prog)s --cycle 360 --mask 1x15 readings.csv > bench.record"
+    maker.add_argument("--cycle", type=whole, required=True, metavar="C", help="ticks of the beacon cycle, 1 to 65535")
+    maker.add_argument(
+        "--mask", type=_mask, metavar="RxT",
+        help="rows and wakes of the median's window, both odd, up to 255; else the usual mask, that of a record whose mask field is empty",
+    )
+    maker.add_argument("file", nargs="?", metavar="TABLE", help="a CSV file; else, or by a -, standard input")
+
+
+def _shower(shower: argparse.ArgumentParser) -> None:
+    shower.formatter_class = argparse.RawDescriptionHelpFormatter
+    shower.description = """Makes a table of a record's readings: a row to a label, a column to a wake, a silent wake as a -. The options that make the
+record of its table again are told besides."""
+    shower.epilog = "example:\n  %(prog)s bench.record > readings.csv"
+    shower.add_argument("file", nargs="?", metavar="RECORD", help="a record; else, or by a -, standard input")
 
 
 def _parser() -> Parser:
@@ -55,27 +95,8 @@ def _parser() -> Parser:
         epilog="%(prog)s make --help and %(prog)s show --help say more.",
     )
     commands = parser.add_subparsers(dest="command", required=True, metavar="make|show", parser_class=Parser)
-    maker = commands.add_parser(
-        "make",
-        help="make a record of a table",
-        formatter_class=argparse.RawDescriptionHelpFormatter,
-        description="Makes a record of a table: a row to a label, a column to a wake, the wake's tick in each cell, and in that of a\n"
-        "silent wake nothing or a -. The record goes to standard output, and nothing does on an error.",
-        epilog="example:\n  %(prog)s --cycle 360 --mask 1x15 readings.csv > bench.record",
-    )
-    maker.add_argument("--cycle", type=int, required=True, metavar="C", help="ticks of the beacon cycle, 1 to 65535")
-    maker.add_argument(
-        "--mask", type=_mask, metavar="RxT", help="rows and wakes of the median's window, both odd, up to 255; else the usual mask",
-    )
-    maker.add_argument("file", nargs="?", metavar="TABLE", help="a CSV file; else standard input")
-    shower = commands.add_parser(
-        "show",
-        help="make a table of a record",
-        formatter_class=argparse.RawDescriptionHelpFormatter,
-        description="Makes a table of a record's readings: a row to a label, a column to a wake, a silent wake as a -.",
-        epilog="example:\n  %(prog)s bench.record > readings.csv",
-    )
-    shower.add_argument("file", nargs="?", metavar="RECORD", help="a record; else standard input")
+    _maker(commands.add_parser("make", help="make a record of a table"))
+    _shower(commands.add_parser("show", help="make a table of a record"))
     return parser
 
 
@@ -84,10 +105,16 @@ def main() -> None:
     asked = _parser().parse_args()
     data = taken(asked.file)
     try:
-        given(make(data, asked.cycle, asked.mask or usual_mask()) if asked.command == "make" else show(data))
-    except (table.BadTable, circle_median.Refused) as trouble:
-        stop(f"{asked.file or 'standard input'}: {trouble}")
+        product = make(data, asked.cycle, asked.mask or usual_mask()) if asked.command == "make" else show(data)
+    except BadOption as trouble:
+        stop(str(trouble))
+    except Refused as refused:
+        stop(f"{named(asked.file)}: {told(refused)}")
+    except table.BadTable as trouble:
+        stop(f"{named(asked.file)}: {trouble}")
+    given(product)
+    say(summary(circle_median.read_record(product if asked.command == "make" else data)))
 
 
 if __name__ == "__main__":
-    main()
+    run(main)

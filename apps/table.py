@@ -1,4 +1,4 @@
-"""Tables of readings as text, as spreadsheets write them: a row to a label, a column to a wake.
+"""Tables of readings as text, as spreadsheets write them: a row to a label, a column to a wake, and nothing else.
 
 A cell is a tick of the cycle, and of a silent wake it is empty or has a `-`. Cells stand between commas; between semicolons or
 tabs if the first line has such. They may be quoted. Whether a number is a tick of the cycle is for the library to say.
@@ -6,11 +6,11 @@ tabs if the first line has such. They may be quoted. Whether a number is a tick 
 from __future__ import annotations
 
 import csv
-import io
 from array import array
 from typing import Iterator, NamedTuple
 
 from circle_median import SILENT
+from drawing import count
 
 
 class BadTable(ValueError):
@@ -35,58 +35,30 @@ def place(line: int, column: int) -> str:
     return f"line {line}, column {column + 1}"
 
 
-def _text(data: bytes) -> str:
+def _lines(data: bytes) -> list[str]:
+    """The lines of a text, however they end."""
+    plain = data.replace(b"\r\n", b"\n").replace(b"\r", b"\n")
     try:
-        return data.decode("utf-8-sig")
+        text = plain.decode("utf-8-sig")
+        bad = plain.find(b"\0")
     except UnicodeDecodeError as trouble:
-        line = data.count(b"\n", 0, trouble.start) + 1
-        raise BadTable(f"line {line}: this is no text in UTF-8; let the spreadsheet write CSV in UTF-8") from None
+        text, bad = "", trouble.start
+    if bad >= 0:
+        line = plain.count(b"\n", 0, bad) + 1
+        raise BadTable(f"line {line}: this is no text in UTF-8; let the spreadsheet write CSV in UTF-8")
+    return text.removesuffix("\n").split("\n")
 
 
-def _rows(text: str) -> Iterator[tuple[int, list[str]]]:
-    """Each row with the line that it ends at; an empty line has no cells."""
-    first = text[:text.find("\n")] if "\n" in text else text
-    separator = next((each for each in ";\t" if each in first), ",")
-    reader = csv.reader(io.StringIO(text, newline=""), delimiter=separator, strict=True)
-    try:
-        for cells in reader:
-            yield reader.line_num, cells
-    except csv.Error as trouble:
-        raise BadTable(f"line {reader.line_num}: {trouble}") from None
-
-
-def _reading(cell: str) -> int:
-    """The number in a cell; ValueError if there is none, OverflowError if no cycle has it as a tick."""
-    word = cell.strip()
-    if word in ("", "-"):
-        return SILENT
-    if not (word.isascii() and word.isdigit()):
-        raise ValueError
-    if len(word) > 9 or int(word) >= SILENT:
-        raise OverflowError
-    return int(word)
-
-
-def shown(cell: str) -> str:
-    """A cell in an error: cut where it is long."""
-    word = cell.strip()
-    return word if len(word) <= 24 else f"{word[:20]}.."
-
-
-def no_tick(cell: object, cycle: int) -> str:
-    """What is wrong with a number that is no tick."""
-    return f"{cell} is no tick of a cycle of {cycle}"
-
-
-def _row(line: int, cells: list[str], cycle: int) -> Iterator[int]:
-    """The readings of a row."""
-    for column, cell in enumerate(cells):
+def _rows(lines: list[str]) -> Iterator[tuple[int, list[str]]]:
+    """The cells of each line, with its number; of an empty line none."""
+    separator = next((each for each in ";\t" if each in lines[0]), ",")
+    for number, line in enumerate(lines, 1):
         try:
-            yield _reading(cell)
-        except OverflowError:
-            raise BadTable(f"{place(line, column)}: {no_tick(shown(cell), cycle)}") from None
-        except ValueError:
-            raise BadTable(f"{place(line, column)}: {shown(cell)!r} is neither a whole number nor a silent wake, -") from None
+            cells = next(csv.reader([line], delimiter=separator, strict=True), [])
+        except csv.Error as trouble:
+            why = "a quote is not closed" if "end of data" in str(trouble) else trouble
+            raise BadTable(f"line {number}: {why}") from None
+        yield number, cells if len(cells) > 1 or "".join(cells).strip() else []
 
 
 def _filled(rows: Iterator[tuple[int, list[str]]]) -> Iterator[tuple[int, list[str]]]:
@@ -105,13 +77,49 @@ def _filled(rows: Iterator[tuple[int, list[str]]]) -> Iterator[tuple[int, list[s
         raise BadTable(f"line {empty} is empty; a wake that was silent can be written as a -")
 
 
+def _reading(cell: str) -> int:
+    """The number in a cell; ValueError if there is none, OverflowError if no cycle has it as a tick."""
+    word = cell.strip(" \t")
+    if word in ("", "-"):
+        return SILENT
+    if not (word.isascii() and word.isdigit()):
+        raise ValueError
+    digits = word.lstrip("0") or "0"
+    if len(digits) > 5 or int(digits) >= SILENT:
+        raise OverflowError
+    return int(digits)
+
+
+def _shown(cell: str) -> str:
+    """A cell in an error: cut where it is long."""
+    word = cell.strip(" \t")
+    return word if len(word) <= 24 else f"{word[:20]}.."
+
+
+def no_tick(cell: object, cycle: int) -> str:
+    """What is wrong with a number that is no tick."""
+    return f"{cell} is no tick of a cycle of {cycle}"
+
+
+def _row(line: int, cells: list[str], cycle: int) -> Iterator[int]:
+    """The readings of a row."""
+    for column, cell in enumerate(cells):
+        try:
+            yield _reading(cell)
+        except OverflowError:
+            raise BadTable(f"{place(line, column)}: {no_tick(_shown(cell), cycle)}") from None
+        except ValueError:
+            raise BadTable(f"{place(line, column)}: {_shown(cell)!r} is neither a whole number nor a silent wake, -") from None
+
+
 def parse(data: bytes, cycle: int) -> Table:
     """The table in the bytes of a file."""
-    readings, lines, columns = array("H"), [], 0
-    for line, cells in _filled(_rows(_text(data))):
+    readings, columns = array("H"), 0
+    lines: list[int] = []
+    for line, cells in _filled(_rows(_lines(data))):
         columns = columns or len(cells)
         if len(cells) != columns:
-            raise BadTable(f"line {line}: {len(cells)} cells, where line {lines[0]} has {columns}")
+            raise BadTable(f"line {line} has {count(len(cells), 'cell')}, and line {lines[0]} has {columns}")
         readings.extend(_row(line, cells, cycle))
         lines.append(line)
     if not lines:

@@ -103,8 +103,9 @@ class Figures(unittest.TestCase):
             self.assertEqual(abs(at - line[wake]), cm.distance(c, phases[wake], raw[wake]))
         far = {wake for wake, at in dots.items() if abs(at - line[wake]) > limits.thrown}
         self.assertEqual({wake for wake, _ in drawn.thrown}, far)
-        quiet = [wake for begin, end in drawn.silent for wake in range(math.ceil(begin), math.ceil(end))]
-        self.assertEqual(quiet, [wake for wake, x in enumerate(raw) if x == SILENT])
+        quiet = [wake for wake, x in enumerate(raw) if x == SILENT]
+        ends = [wake for wake in quiet if wake + 1 not in quiet]
+        self.assertEqual(drawn.silent, [(begin - 0.5, end + 0.5) for begin, end in zip((x for x in quiet if x - 1 not in quiet), ends)])
 
     def check_dial(self, hands, i, c, phases, limits):
         heard = ref.heard(phases)
@@ -173,7 +174,7 @@ class Thinned(unittest.TestCase):
         self.assertLess(points, 1_000_000)
 
     def test_the_dial_has_those_that_drift_most(self):
-        rows = [array("H", [0] * 8 + [k] * 8) for k in range(100)]
+        rows = [array("H", [0] * 8 + [k if k % 2 else -k % 360] * 8) for k in range(100)]
         data = cm.write_record(array("H", b"".join(row.tobytes() for row in rows)), 360, (1, 1), (100, 16))
         drawn = Page(page(Bench(data), "rack"))
         self.assertEqual({hands.words.partition(":")[0] for hands in drawn.dial()}, {f"label {k}" for k in range(52, 100)})
@@ -215,9 +216,12 @@ class Text(unittest.TestCase):
             (section,) = drawn.by("section", "label")
             marks = [(part, drawn.words(part)) for part in drawn.by("text", "mark", section)]
             self.assertEqual({words for part, words in marks if "unit" in part.get("class")}, {"tick", "wake"})
+            height = float(drawn.by("svg", "strip", section)[0].get("viewBox").split()[3])
+            ends = {"x": (strip.LEFT, strip.WIDTH - strip.RIGHT), "y": (strip.TOP + 3, height - strip.BOTTOM + 4)}
             for axis, kind, apart in (("y", "right", 11), ("x", "middle", 40)):
                 some = [(float(part.get(axis)), int(words)) for part, words in marks if part.get("class") == f"mark {kind}"]
                 self.assertTrue(some)
+                self.assertTrue(all(ends[axis][0] <= place <= ends[axis][1] for place, _ in some))
                 self.assertTrue(all(0 <= n < (cycle if axis == "y" else wakes) for _, n in some))
                 places = sorted(place for place, _ in some)
                 self.assertTrue(all(b - a >= apart for a, b in zip(places, places[1:])), (cycle, wakes, places))

@@ -6,12 +6,16 @@ from __future__ import annotations
 
 import os
 import random
+import signal
 import subprocess
 import sys
+import tempfile
+import time
 import unittest
 
 from places import APPS, ENVIRONMENT, EXAMPLES, SHEET
 
+import circle_median
 import record
 import reference as ref
 import table
@@ -37,10 +41,10 @@ def plain(rows):
 def varied(chance, rows):
     """The table as some spreadsheet might write it."""
     separator, end = chance.choice((",", ";", "\t")), chance.choice(("\n", "\r\n"))
-    empty = "" if len(rows[0]) > 1 else '""'
+    silences = ("-", " - ", '"-"', "", " ", '""') if len(rows[0]) > 1 else ("-", " - ", '"-"')
 
     def cell(x):
-        word = chance.choice((empty, "-", " - ", '"-"')) if x is None else chance.choice((str(x), f" {x}", f'"{x}"', f"{x:06}"))
+        word = chance.choice(silences) if x is None else chance.choice((str(x), f" {x}", f'"{x}"', f"{x:06}"))
         return word if separator != "\t" else word.strip()
 
     text = end.join(separator.join(map(cell, row)) for row in rows)
@@ -73,9 +77,9 @@ class RoundTrip(unittest.TestCase):
             self.assertEqual("".join(",".join(row) + "\n" for row in read).encode(), record.show(data))
 
     def test_largest(self):
-        rows = [[(j * 7 + i) % 65535 for j in range(8192)] for i in range(1024)]
-        data = plain(rows)
-        self.assertEqual(record.show(record.make(data, 65535, (1, 7))), data)
+        for labels, wakes in ((1024, 100), (100, 8192)):
+            data = plain([[(j * 7 + i) % 65535 for j in range(wakes)] for i in range(labels)])
+            self.assertEqual(record.show(record.make(data, 65535, (1, 7))), data)
 
     def test_usual_mask(self):
         self.assertEqual(record.usual_mask(), ref.DEFAULT_MASK)
@@ -85,7 +89,7 @@ class Wrong(unittest.TestCase):
     """Tables that are no records."""
 
     def refused(self, data, due, c=360, mask=(1, 15)):
-        with self.assertRaises(table.BadTable) as caught:
+        with self.assertRaises((table.BadTable, record.BadOption)) as caught:
             record.make(data, c, mask)
         self.assertEqual(str(caught.exception), due)
 
@@ -101,31 +105,36 @@ class Wrong(unittest.TestCase):
             )
 
     def test_rows(self):
-        self.refused(b"1,2\n3\n", "line 2: 1 cells, where line 1 has 2")
-        self.refused(b"1,2\n3,4,\n", "line 2: 3 cells, where line 1 has 2")
-        self.refused(b"1;2\n3,4\n", "line 2: 1 cells, where line 1 has 2")
+        self.refused(b"1,2\n3\n", "line 2 has 1 cell, and line 1 has 2")
+        self.refused(b"1,2\n3,4,\n", "line 2 has 3 cells, and line 1 has 2")
+        self.refused(b"1;2\n3,4\n", "line 2 has 1 cell, and line 1 has 2")
+        self.refused(b"1,2\n3;4\n", "line 2 has 1 cell, and line 1 has 2")
         self.refused(b"", "line 1: the table is empty")
         self.refused(b"\n\n", "line 1: the table is empty")
         self.refused(b"\n1,2\n", "line 1 is empty; a wake that was silent can be written as a -")
         self.refused(b"1,2\n\n3,4\n", "line 2 is empty; a wake that was silent can be written as a -")
-        self.refused(b"1\n2\n\n", "line 3 is empty; a wake that was silent can be written as a -")
+        for end in (b"\n", b" \n", b"\t", b'""\n'):
+            self.refused(b"1\n2\n" + end, "line 3 is empty; a wake that was silent can be written as a -")
         self.assertEqual(record.make(b"1,2\n\n\n", 8, (1, 3)), record.make(b"1,2", 8, (1, 3)))
 
     def test_texts(self):
         self.refused("1,2\n".encode("utf-16"), "line 1: this is no text in UTF-8; let the spreadsheet write CSV in UTF-8")
         self.refused(b"1,2\n3,\xe9\n", "line 2: this is no text in UTF-8; let the spreadsheet write CSV in UTF-8")
-        self.refused(b'1,2\n3,"4\n', "line 2: unexpected end of data")
+        self.refused(b"1,2\r3,\xe9\r", "line 2: this is no text in UTF-8; let the spreadsheet write CSV in UTF-8")
+        self.refused(b"1,2\n3,4\n5,\0\n", "line 3: this is no text in UTF-8; let the spreadsheet write CSV in UTF-8")
+        self.refused(b'1,2\n3,"4\n5,6\n', "line 2: a quote is not closed")
+        self.refused(b'1,2\r3,4\r5,360\r', "line 3, column 2: 360 is no tick of a cycle of 360")
         self.refused(b'1,2\n3,"4"4\n', "line 2: ',' expected after '\"'")
 
     def test_options(self):
-        self.refused(b"0\n", "--cycle 0: refused 1: the cycle is 0 or longer than the call takes", 0)
-        self.refused(b"0\n", "--cycle -8: refused 1: the cycle is 0 or longer than the call takes", -8)
-        self.refused(b"0\n", "--cycle 4294967304: refused 1: the cycle is 0 or longer than the call takes", 2**32 + 8)
+        for cycle in (0, 65536, 2**32 + 8):
+            self.refused(b"0\n", f"--cycle {cycle}: refused 1: the cycle is 0 or longer than the call takes", cycle)
         reason = "refused 3: a mask side is even, 0 or above 255, or a live window's length even, 0 or above 63"
-        self.refused(b"0\n", f"--mask 1x4: {reason}", 8, (1, 4))
+        for mask in ((1, 4), (0, 1), (257, 1), (1, 2**32 + 1)):
+            self.refused(b"0\n", f"--mask {mask[0]}x{mask[1]}: {reason}", 8, mask)
         reason = "refused 2: rows outside 1 to 1024, or columns or a row's readings outside 1 to 8192"
-        self.refused(b"0\n" * 1025, f"1025 labels by 1 wakes: {reason}")
-        self.refused(b"0" + b",0" * 8192, f"1 labels by 8193 wakes: {reason}")
+        self.refused(b"0\n" * 1025, f"1,025 labels by 1 wake: {reason}")
+        self.refused(b"0" + b",0" * 8192, f"1 label by 8,193 wakes: {reason}")
 
 
 class Program(unittest.TestCase):
@@ -141,10 +150,13 @@ class Program(unittest.TestCase):
         paper = os.path.join(EXAMPLES, "paper.record")
         with open(paper, "rb") as file:
             due = file.read()
-        self.assertEqual(self.run_it("show", paper), (0, b"1,4,1,7,7\n", ""))
-        self.assertEqual(self.run_it("show", data=due), (0, b"1,4,1,7,7\n", ""))
-        self.assertEqual(self.run_it("make", "--cycle", "8", "--mask", "1x3", data=b"1,4,1,7,7\n"), (0, due, ""))
-        self.assertEqual(self.run_it("make", "--cycle=8", "--mask=1X3", "-", data=b"1,4,1,7,7\n"), (0, due, ""))
+        summary = "record: 1 label by 5 wakes, 0 silent, --cycle 8 --mask 1x3\n"
+        self.assertEqual(self.run_it("show", paper), (0, b"1,4,1,7,7\n", summary))
+        self.assertEqual(self.run_it("show", data=due), (0, b"1,4,1,7,7\n", summary))
+        self.assertEqual(self.run_it("make", "--cycle", "8", "--mask", "1x3", data=b"1,4,1,7,7\n"), (0, due, summary))
+        self.assertEqual(self.run_it("make", "--cycle=8", "--mask=1X3", "-", data=b"1,4,1,7,7\n"), (0, due, summary))
+        _, _, said = self.run_it("make", "--cycle=8", "--mask=3x1", data=b"1,,\n,,\n")
+        self.assertEqual(said, "record: 2 labels by 3 wakes, 5 silent, --cycle 8 --mask 3x1\n")
         status, usual, _ = self.run_it("make", "--cycle", "8", data=b"1,4,1,7,7\n")
         self.assertEqual((status, ref.read_record(usual, 5)[3:5]), (0, ref.DEFAULT_MASK))
 
@@ -154,15 +166,46 @@ class Program(unittest.TestCase):
             (("make", "--cycle", "8", "no.csv"), b"", 1, "no.csv cannot be read: No such file or directory"),
             (("make", "--cycle", "8", "/"), b"", 1, "/ cannot be read: Is a directory"),
             (("show", "no.record"), b"", 1, "no.record cannot be read: No such file or directory"),
-            (("show",), b"\1\0\2", 1, "standard input: refused 10 at 0: the record ends within a field"),
-            (("show",), b"", 1, "standard input: refused 10 at 0: the record ends within a field"),
+            (("make", "--cycle", "8", "--mask", "1x4", "-"), b"1\n", 1, f"--mask 1x4: {circle_median.Refused(3)}"),
+            (("show", "-"), b"", 1, "standard input: refused 10 at 0: the record ends within a field; it does not begin as a bench record does"),
+            (("show",), b"1,2,3\n", 1, "standard input: refused 11 at 0: a tag is not the one due; it does not begin as a bench record does"),
+            (("show",), b"\1\0\2\0\x08\2", 1, "standard input: refused 10 at 5: the record ends within a field"),
             (("make",), b"1\n", 2, "the following arguments are required: --cycle; record make --help says how it is called"),
-            (("make", "--cycle", "x"), b"1\n", 2, "argument --cycle: invalid int value: 'x'; record make --help says how it is called"),
+            (("make", "--cycle", "x"), b"1\n", 2, "argument --cycle: 'x' is no whole number; record make --help says how it is called"),
             (("make", "--cycle", "8", "--mask", "15"), b"1\n", 2,
              "argument --mask: '15' is not of the form 1x15, rows by wakes; record make --help says how it is called"),
             ((), b"", 2, "the following arguments are required: make|show; record --help says how it is called"),
         ):
             self.assertEqual(self.run_it(*arguments, data=data), (status, b"", f"record: {due}\n"))
+
+    def test_what_stops_it(self):
+        """No library, closed input or output, and an interrupt are told in one line, which never goes into the product."""
+        program, paper = os.path.join(APPS, "record.py"), os.path.join(EXAMPLES, "paper.record")
+        for command, status, due in (
+            (f"CIRCLE_MEDIAN_LIB={APPS} {sys.executable} {program} show {paper}", 1, "record: circle_median has no library: .*"),
+            (f"{sys.executable} {program} show <&-", 1, "record: standard input cannot be read: Bad file descriptor"),
+            (f"{sys.executable} {program} show {paper} >&-", 1, "record: standard output cannot be written: Bad file descriptor"),
+            (f"{sys.executable} {program} show no.record 2>&-", 1, ""),
+            (f"ulimit -v 400000; {sys.executable} {program} show /dev/zero", 1, "record: there is not enough memory"),
+        ):
+            run = subprocess.run(["sh", "-c", command], capture_output=True, text=True, env=ENVIRONMENT)
+            self.assertEqual((run.returncode, run.stdout), (status, ""), command)
+            self.assertRegex(run.stderr, rf"\A{due}\n?\Z", command)
+        run = subprocess.Popen([sys.executable, program, "show"], stdin=subprocess.PIPE, stderr=subprocess.PIPE, env=ENVIRONMENT)
+        time.sleep(1)
+        run.send_signal(signal.SIGINT)
+        self.assertEqual((run.communicate()[1], run.returncode), (b"record: interrupted\n", 130))
+
+    def test_nothing_is_lost(self):
+        """A file that may not grow is told, also where Python's own output has no buffer."""
+        data = record.make(b"1,2,3,4,5,6,7\n" * 1000, 8, (1, 3))
+        with tempfile.TemporaryDirectory() as folder:
+            source = os.path.join(folder, "long.record")
+            with open(source, "wb") as file:
+                file.write(data)
+            command = f"ulimit -f 1; exec {sys.executable} {os.path.join(APPS, 'record.py')} show {source} >{folder}/table"
+            run = subprocess.run(["sh", "-c", command], capture_output=True, env={**ENVIRONMENT, "PYTHONUNBUFFERED": "1"})
+        self.assertEqual((run.returncode, run.stderr), (1, b"record: standard output cannot be written: File too large\n"))
 
     def test_full_disk(self):
         if not os.path.exists("/dev/full"):

@@ -14,8 +14,10 @@ ahead. A LiveWindow does so wake by wake, with no image stored.
     >>> circle_median.drift(8, filtered)
     -2
 
-Every call returns its result or raises Refused, with the number and the place that the paper gives; a refused call has
-changed no memory. A reading that was not heard is SILENT on every cycle:
+Every call returns its result or raises Refused, with the number and the place that the paper gives (document 01, "The circle
+median of wake phases"); a refused call has changed no memory. A reading that was not heard is SILENT on every cycle. It has no
+distance and adds to no sum; where the centre of a window is silent, the first heard reading of the window, row by row, takes its part;
+where none is heard the phase is SILENT; a drift passes over it:
 
     >>> SILENT = circle_median.SILENT
     >>> filtered = circle_median.filter(array("H", [1, SILENT, 7, SILENT, SILENT, SILENT, 3]), 8, (1, 3))
@@ -23,8 +25,8 @@ changed no memory. A reading that was not heard is SILENT on every cycle:
     [1, 1, 7, 7, '-', 3, 3]
 
 Readings and outputs are buffers of unsigned numbers of 16 bits in the machine's order, row by row without gaps:
-array("H"), memoryviews of it, NumPy arrays of dtype uint16. Records are buffers of bytes. A buffer of other elements, and an
-output that cannot be written, is a TypeError before the call. With NumPy an image of two dimensions needs no size:
+array("H"), memoryviews of it, NumPy arrays of dtype uint16. Records are buffers of bytes. A buffer of other elements, one with a
+mask of its own, and an output that cannot be written, is a TypeError before the call. With NumPy an image of two dimensions needs no size:
 
     image = numpy.array([[1, 4, 1, 7, 7]], dtype=numpy.uint16)
     filtered = numpy.empty_like(image)
@@ -32,16 +34,20 @@ output that cannot be written, is a TypeError before the call. With NumPy an ima
 
 Numbers are integers of any size. One that the library's parameter has no room for is refused like any other out of range.
 
-The calls let other threads run, so that rows may be filtered in several threads, each with an output of its own. What a call
-reads or writes may not be changed by another thread meanwhile, and a LiveWindow is for one thread at a time.
+The calls let other threads run, so that rows may be filtered in several threads, each with an output of its own. A thread that
+filters needs 512 KiB of stack. What a call reads or writes may not be changed by another thread meanwhile, nor may two buffers of
+a call be the same memory mapped twice, and a LiveWindow is for one thread at a time. A call is not interrupted: an image that takes
+long is better filtered some rows at a time.
 
 The library is libcircle_median.so: of the folder that the environment variable CIRCLE_MEDIAN_LIB names, else of the
-repository or the installation that this file is part of, else of the system.
+repository or the installation that this file is part of, else of the system. The first call loads it; an ImportError says that
+it is not there.
 """
 from __future__ import annotations
 
 import ctypes
 import enum
+import functools
 import operator
 import os
 import sys
@@ -51,6 +57,8 @@ from typing import TYPE_CHECKING, Any, NamedTuple, Optional, Tuple, Union
 
 if TYPE_CHECKING:
     from typing_extensions import Buffer
+else:
+    Buffer = Any
 
 __all__ = [
     "SILENT", "Engine", "LiveWindow", "Record", "Refused",
@@ -185,37 +193,39 @@ _DECLARATIONS = {
 
 
 def _places() -> list[str]:
-    """Where the library may be, the first that is there being taken."""
+    """Where the library is looked for, the system's places last."""
     named = os.environ.get("CIRCLE_MEDIAN_LIB")
     if named:
         return [os.path.join(os.path.abspath(named), "libcircle_median.so")]
     root = os.path.dirname(os.path.dirname(os.path.dirname(os.path.abspath(__file__))))
-    return [os.path.join(root, "target", "lib", "libcircle_median.so"), os.path.join(root, "lib", "libcircle_median.so")]
+    own = (os.path.join(root, *folder, "libcircle_median.so") for folder in (("target", "lib"), ("lib",)))
+    return [*(place for place in own if os.path.exists(place)), "libcircle_median.so.0"]
 
 
-def _load() -> ctypes.CDLL:
+@functools.lru_cache(maxsize=None)
+def _library() -> ctypes.CDLL:
     """The library with its functions declared, or an ImportError that says how to get it."""
-    places = _places()
-    named = next((place for place in places if os.path.exists(place)), "libcircle_median.so.0")
+    place = _places()[0]
     try:
-        library = ctypes.CDLL(named)
+        library = ctypes.CDLL(place)
         for name, (answer, arguments) in _DECLARATIONS.items():
             function = getattr(library, name)
             function.restype, function.argtypes = answer, arguments
     except (OSError, AttributeError) as trouble:
         raise ImportError(
-            f"circle_median has no library: {trouble}. `make shared` in the repository makes it; the environment variable"
-            f" CIRCLE_MEDIAN_LIB names another folder; looked for {', '.join(places)}"
+            f"circle_median has no library: {trouble}; `make shared` in the repository makes it, and the environment variable"
+            " CIRCLE_MEDIAN_LIB names another folder that has it"
         ) from None
     return library
 
 
-_library = _load()
-
 # What a call is lent.
 
-_FORMATS = {c_uint8: {"B", "c"}, c_uint16: {"H", "@H", "=H", "<H" if sys.byteorder == "little" else ">H"}}
-_WORDS = {c_uint8: "bytes", c_uint16: "unsigned numbers of 16 bits in the machine's order"}
+_FORMATS = {c_uint8: {"B", "c", "<B", "<c"}, c_uint16: {"H", "@H", "=H", "<H" if sys.byteorder == "little" else ">H"}}
+_WORDS = {
+    c_uint8: "bytes",
+    c_uint16: "unsigned numbers of 16 bits in the machine's order, as array('H', ..) or a NumPy array of dtype uint16 has them",
+}
 
 
 def _held(x: int, most: int) -> int:
@@ -238,11 +248,13 @@ def _view(name: str, buffer: Buffer, element: Any) -> memoryview:
     try:
         view = memoryview(buffer)
     except TypeError:
-        raise TypeError(f"{name}: a {type(buffer).__name__} has no buffer; array('H', ..) makes one of a list") from None
+        raise TypeError(f"{name}: a {type(buffer).__name__} has no buffer; due are {_WORDS[element]}") from None
     if view.format not in _FORMATS[element]:
         raise TypeError(f"{name}: the elements have the format {view.format!r}; due are {_WORDS[element]}")
     if view.ndim == 0 or not view.c_contiguous:
         raise TypeError(f"{name}: the elements do not lie row by row without gaps")
+    if hasattr(buffer, "mask"):
+        raise TypeError(f"{name}: the mask of a {type(buffer).__name__} would be lost; its method filled(SILENT) tells it")
     return view
 
 
@@ -304,7 +316,7 @@ def distance(cycle: int, a: int, b: int) -> int:
     Traceback (most recent call last):
     circle_median.Refused: refused 9 at 1: a reading is neither below the cycle nor silent, or an argument is not below the cycle
     """
-    return _answered(_library.circle_median_distance(_number(cycle), _tick(a), _tick(b))).value
+    return _answered(_library().circle_median_distance(_number(cycle), _tick(a), _tick(b))).value
 
 
 def step(cycle: int, a: int, b: int) -> int:
@@ -313,7 +325,7 @@ def step(cycle: int, a: int, b: int) -> int:
     >>> step(360, 359, 1), step(360, 1, 359), step(8, 1, 5)
     (2, -2, -4)
     """
-    return _answered(_library.circle_median_step(_number(cycle), _tick(a), _tick(b))).value
+    return _answered(_library().circle_median_step(_number(cycle), _tick(a), _tick(b))).value
 
 
 def slot(cycle: int, p: int, s: int, w: int) -> bool:
@@ -322,7 +334,7 @@ def slot(cycle: int, p: int, s: int, w: int) -> bool:
     >>> slot(360, 2, 350, 12), slot(360, 3, 350, 12)
     (True, False)
     """
-    return bool(_answered(_library.circle_median_slot(_number(cycle), _tick(p), _tick(s), _tick(w))).value)
+    return bool(_answered(_library().circle_median_slot(_number(cycle), _tick(p), _tick(s), _tick(w))).value)
 
 
 def drift(cycle: int, row: Buffer) -> int:
@@ -331,28 +343,54 @@ def drift(cycle: int, row: Buffer) -> int:
     >>> drift(8, array("H", [1, 1, 7, 7, SILENT, 3, 3]))
     -6
     """
-    lent = _read_only("row", row, c_uint16)
-    return _answered(_library.circle_median_drift(_number(cycle), lent, len(lent))).value
+    return _answered(_drift(_number(cycle), _view("row", row, c_uint16))).value
+
+
+def _drift(cycle: int, view: memoryview) -> Any:
+    if view.ndim > 1:
+        raise TypeError(f"row: it has {view.ndim} dimensions; an image has a drift for each of its rows")
+    lent = _read_only("row", view, c_uint16)
+    return _library().circle_median_drift(cycle, lent, len(lent))
 
 
 # The filter.
 
 
+def _pair(name: str, pair: Tuple[int, int]) -> Tuple[int, int]:
+    """Rows and columns."""
+    try:
+        rows, columns = pair
+    except (TypeError, ValueError):
+        raise TypeError(f"{name}: (rows, columns) is due, and not {pair!r}") from None
+    return _number(rows), _number(columns)
+
+
 def _size(view: memoryview, size: Optional[Tuple[int, int]]) -> Tuple[int, int]:
-    """The rows and columns of an image: those that are told, those of its two dimensions, or one row."""
+    """The rows and columns of an image: those of its two dimensions, those that are told, or one row."""
+    if view.ndim == 2:
+        own = _pair("readings", view.shape)
+        if size is not None and _pair("size", size) != own:
+            raise ValueError(f"size: the readings are {own[0]} by {own[1]}, and not {size[0]} by {size[1]}")
+        return own
     if size is not None:
-        rows, columns = size
-        return _number(rows), _number(columns)
+        return _pair("size", size)
     if view.ndim > 2:
-        raise TypeError(f"readings: of {view.ndim} dimensions; tell the size, (rows, columns)")
-    rows, columns = (1, *view.shape)[-2:]
-    return rows, columns
+        raise TypeError(f"readings: they have {view.ndim} dimensions; tell the size, (rows, columns)")
+    return _pair("readings", (1, view.shape[0]))
 
 
 def _shape(view: memoryview, cycle: int, mask: Tuple[int, int], size: Optional[Tuple[int, int]]) -> Tuple[int, ...]:
     """Cycle, rows, columns and mask sides: the paper's C, M, N, R and T."""
-    mask_rows, mask_columns = mask
-    return (_number(cycle), *_size(view, size), _number(mask_rows), _number(mask_columns))
+    return (_number(cycle), *_size(view, size), *_pair("mask", mask))
+
+
+def _ends(rows: Optional[range], all_rows: int) -> Tuple[int, int]:
+    """The first row and the end of those to filter."""
+    if rows is None:
+        return 0, all_rows
+    if not isinstance(rows, range) or rows.step != 1:
+        raise TypeError(f"rows: range(first, end) is due, and not {rows!r}")
+    return _number(rows.start), _number(rows.stop)
 
 
 def _work(engine: Engine, shape: Tuple[int, ...]) -> Any:
@@ -363,7 +401,7 @@ def _work(engine: Engine, shape: Tuple[int, ...]) -> Any:
 
 def _filtered(engine: Engine, shape: Tuple[int, ...], ends: Tuple[int, int], image: Any, output: Any) -> _Answer:
     """The answer of an engine. Work memory is made once all that is tested before it has passed."""
-    call = getattr(_library, f"circle_median_{engine.value}")
+    call = getattr(_library(), f"circle_median_{engine.value}")
     lent = (*shape, *ends, image, len(image), output, len(output))
     answer = call(*lent, (c_uint32 * 1)(), 0)
     if answer.number != _SHORT_WORK:
@@ -395,12 +433,14 @@ def filter(
     mask      rows and columns of the window around each reading, both odd, up to 255, also longer than the image
     size      rows and columns of the image, 1 to 1,024 and 1 to 8,192; else those of its two dimensions, else one row
     rows      the rows to filter, as range(first, end); else all
-    engine    Engine.LEVEL or Engine.READING, or their names; else the one that is faster here. Both write the same
-    output    where to write: each row of the range at its own spot of the whole image, the rest is kept. It may not overlap
-              readings. Without it the phases come in a new array("H"), in which rows outside the range are SILENT
+    engine    Engine.LEVEL or Engine.READING, or "level" or "reading"; else the one that is faster here. Both write the same
+    output    where to write, at least rows * columns numbers: each row of the range at its own spot of the whole image, the rest is
+              kept. It may not overlap readings. Without it the phases come in a new array("H"), in which rows outside the range
+              are SILENT
 
     At its edges the image is mirrored, the edge repeated, as often as the mask needs. Returns the output. The work memory is
-    this module's: up to 134 MB for the level engine and 2.1 GB for the reading engine, for the largest masks on the longest rows.
+    this module's: up to 134 MB for the level engine and 2.1 GB for the reading engine, for the largest masks on the longest rows,
+    also where a reading is refused then.
 
     >>> image = array("H", [5, 0, 0, 4, 1, 7])
     >>> filter(image, 8, (1, 3), (2, 3))
@@ -416,26 +456,34 @@ def filter(
     >>> filter(*read_record(write_record(image, 8, (3, 3), (2, 3))))
     array('H', [5, 0, 0, 4, 7, 0])
     """
-    view = _view("readings", readings, c_uint16)
-    shape = _shape(view, cycle, mask, size)
-    image = _read_only("readings", view, c_uint16)
-    if rows is None:
-        rows = range(shape[1])
-    if rows.step != 1:
-        raise ValueError("rows: a range with steps of 1 is due")
     if output is None:
-        output = array("H", [SILENT]) * len(image)
-    written = _writable("output", output, c_uint16)
-    _apart(written, image)
-    ends = _number(rows.start), _number(rows.stop)
-    if engine is not None:
-        answer = _filtered(Engine(engine), shape, ends, image, written)
-    else:
-        answer = _filtered(Engine.LEVEL, shape, ends, image, written) if _is_level_faster(shape) else None
-        if answer is None or answer.number == _CYCLE:
-            answer = _filtered(Engine.READING, shape, ends, image, written)
-    _answered(answer)
+        output = array("H", [SILENT]) * (_view("readings", readings, c_uint16).nbytes // 2)
+    _answered(_filter(_view("readings", readings, c_uint16), cycle, mask, size, rows, engine, output))
     return output
+
+
+def _filter(
+    view: memoryview, cycle: int, mask: Tuple[int, int], size: Optional[Tuple[int, int]], rows: Optional[range],
+    engine: Union[Engine, str, None], output: Buffer,
+) -> _Answer:
+    """The answer of the engine that is named, or of the one that is faster and takes the cycle."""
+    shape = _shape(view, cycle, mask, size)
+    ends = _ends(rows, shape[1])
+    image = _read_only("readings", view, c_uint16)
+    written = _output(output, shape[2])
+    _apart(written, image)
+    if engine is not None:
+        return _filtered(Engine(engine), shape, ends, image, written)
+    answer = _filtered(Engine.LEVEL, shape, ends, image, written) if _is_level_faster(shape) else None
+    return _filtered(Engine.READING, shape, ends, image, written) if answer is None or answer.number == _CYCLE else answer
+
+
+def _output(output: Buffer, columns: int) -> Any:
+    """What an engine writes: any numbers, or an image's as wide as the readings'."""
+    view = _view("output", output, c_uint16)
+    if view.ndim == 2 and view.shape[1] != columns:
+        raise TypeError(f"output: it has {view.shape[1]} columns, and the readings {columns}")
+    return _writable("output", output, c_uint16)
 
 
 # Records.
@@ -465,31 +513,34 @@ def read_record(data: Buffer, output: Optional[Buffer] = None) -> Record:
     Traceback (most recent call last):
     circle_median.Refused: refused 10 at 0: the record ends within a field
     """
-    lent = _read_only("data", data, c_uint8)
     if output is not None:
-        return _read_into(lent, _writable("output", output, c_uint16), memoryview(output))
+        return _read_into(data, output)
     try:
         # An accepted record has two bytes for each reading.
-        return _read_new(lent, len(lent) // 2)
+        return _read_new(data, min(_view("data", data, c_uint8).nbytes // 2, _MOST_READINGS))
     except Refused as refused:
         if refused.number != _SHORT_BUFFER:
             raise
-    return _read_new(lent, _MOST_READINGS)
+    return _read_new(data, _MOST_READINGS)
 
 
-def _read_new(lent: Any, room: int) -> Record:
+def _read_new(data: Buffer, room: int) -> Record:
     """The record, read to new memory."""
-    output = array("H", bytes(2 * room))
-    record = _read_into(lent, _writable("output", output, c_uint16), memoryview(output))
+    record = _read_into(data, array("H", bytes(2 * room)))
     return record._replace(readings=array("H", record.readings.tobytes()))
 
 
-def _read_into(lent: Any, written: Any, output: memoryview) -> Record:
+def _read_into(data: Buffer, output: Buffer) -> Record:
     """The record, read to the front of an output."""
-    _apart(written, lent)
-    answer = _answered(_library.circle_median_read(lent, len(lent), written, len(written)))
+    answer = _answered(_read(data, output))
     size, mask = (answer.rows, answer.columns), (answer.mask_rows, answer.mask_columns)
-    return Record(output.cast("B").cast("H")[:size[0] * size[1]], answer.cycle, mask, size)
+    return Record(memoryview(output).cast("B").cast("H")[:size[0] * size[1]], answer.cycle, mask, size)
+
+
+def _read(data: Buffer, output: Buffer) -> _RecordAnswer:
+    lent, written = _read_only("data", data, c_uint8), _writable("output", output, c_uint16)
+    _apart(written, lent)
+    return _library().circle_median_read(lent, len(lent), written, len(written))
 
 
 def write_record(readings: Buffer, cycle: int, mask: Tuple[int, int], size: Optional[Tuple[int, int]] = None) -> bytes:
@@ -501,24 +552,30 @@ def write_record(readings: Buffer, cycle: int, mask: Tuple[int, int], size: Opti
     Traceback (most recent call last):
     circle_median.Refused: refused 9 at 2: a reading is neither below the cycle nor silent, or an argument is not below the cycle
     """
-    view = _view("readings", readings, c_uint16)
+    answer, room = _write(_view("readings", readings, c_uint16), cycle, mask, size)
+    return bytes(memoryview(room)[:_answered(answer).value])
+
+
+def _write(
+    view: memoryview, cycle: int, mask: Tuple[int, int], size: Optional[Tuple[int, int]],
+) -> Tuple[_ValueAnswer, Any]:
+    """The answer of the writer and the bytes, which are made once all that is tested before their room has passed."""
     shape = _shape(view, cycle, mask, size)
-    image = _read_only("readings", view, c_uint16)
-    room = (c_uint8 * 1)()
-    answer = _library.circle_median_write(*shape, image, len(image), room, 0)
+    image, room = _read_only("readings", view, c_uint16), (c_uint8 * 1)()
+    answer = _library().circle_median_write(*shape, image, len(image), room, 0)
     if answer.number == _SHORT_BUFFER:
-        # All that is tested before the room has passed.
         _, rows, columns, _, _ = shape
         room = (c_uint8 * (22 + rows * (3 + 2 * columns)))()
-        answer = _library.circle_median_write(*shape, image, len(image), room, len(room))
-    return bytes(memoryview(room)[:_answered(answer).value])
+        answer = _library().circle_median_write(*shape, image, len(image), room, len(room))
+    return answer, room
 
 
 # The live window.
 
 
 class LiveWindow:
-    """The filter wake by wake for one label, with no stored image: the median of the last `length` readings.
+    """The filter wake by wake for one label, with no stored image: the median of the last `length` readings. The phase that a push
+    tells is that of the wake length // 2 before, the middle of the window.
 
     >>> window = LiveWindow(8, 3)
     >>> [window.push(reading) for reading in (1, 4, 1, 7, 7)]
@@ -530,7 +587,7 @@ class LiveWindow:
     def __init__(self, cycle: int, length: int) -> None:
         """A fresh window of a cycle from 1 to 512 and an odd length from 1 to 63. Refusals: 1, 3."""
         cycle, length, window = _number(cycle), _number(length), _Window()
-        _answered(_library.circle_median_window_fresh(cycle, length, window.readings, window.sums))
+        _answered(_library().circle_median_window_fresh(cycle, length, window.readings, window.sums))
         window.cycle, window.length = cycle, length
         self._window = window
 
@@ -548,7 +605,7 @@ class LiveWindow:
         window, reading = self._window, operator.index(reading)
         # What 16 bits cannot hold is no reading, as 65,534 is none of a cycle up to 512.
         lent = reading if 0 <= reading <= SILENT else 0xFFFE
-        answer = _library.circle_median_window_enter(
+        answer = _library().circle_median_window_enter(
             window.cycle, window.length, window.filled, lent, window.readings, window.sums,
         )
         value = _answered(answer).value
@@ -584,7 +641,7 @@ class LiveWindow:
 
     def __copy__(self) -> LiveWindow:
         """A window of its own, with the same readings."""
-        copied = LiveWindow.__new__(LiveWindow)
+        copied = type(self).__new__(type(self))
         copied._window = _Window.from_buffer_copy(self._window)
         return copied
 

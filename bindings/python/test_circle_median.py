@@ -4,9 +4,12 @@ Usage, from the repository's root, once the shared library is there: python3 -m 
 """
 from __future__ import annotations
 
+import ast
+import contextlib
 import copy
 import ctypes
 import doctest
+import io
 import os
 import pickle
 import random
@@ -216,8 +219,9 @@ class Filter(unittest.TestCase):
 
     def test_rows(self):
         image = array("H", [5, 0, 0, 4, 1, 7])
-        with self.assertRaises(ValueError):
-            cm.filter(image, 8, (1, 3), (2, 3), rows=range(0, 2, 2))
+        for rows in (range(0, 2, 2), (0, 1), 1):
+            with self.assertRaises(TypeError):
+                cm.filter(image, 8, (1, 3), (2, 3), rows=rows)
         self.assertEqual(told(cm.filter, image, 8, (1, 3), (2, 3), rows=range(2, 1)), ref.Refusal(5, 0))
         self.assertEqual(cm.filter(image, 8, (1, 3), (2, 3), rows=range(1, 1)).tolist(), [cm.SILENT] * 6)
 
@@ -359,13 +363,25 @@ class Buffers(unittest.TestCase):
             self.assertEqual(cm.filter(readings, 8, (1, 3)), self.DUE)
             self.assertEqual(cm.drift(8, readings), -2)
             self.assertEqual(cm.write_record(readings, 8, (1, 3)), Records.PAPER)
-        for data in (Records.PAPER, bytearray(Records.PAPER), memoryview(Records.PAPER), array("B", Records.PAPER)):
+        for data in (Records.PAPER, bytearray(Records.PAPER), memoryview(Records.PAPER), array("B", Records.PAPER),
+                     (ctypes.c_uint8 * 35)(*Records.PAPER), (ctypes.c_char * 35)(*Records.PAPER)):
             self.assertEqual(cm.read_record(data).readings, self.ROW)
 
     def test_dimensions(self):
         image = memoryview(self.ROW.tobytes() * 2).cast("H", (2, 5))
         self.assertEqual(cm.filter(image, 8, (1, 3)), self.DUE * 2)
-        self.assertEqual(cm.filter(image, 8, (1, 3), (1, 10)), cm.filter(self.ROW * 2, 8, (1, 3)))
+        self.assertEqual(cm.filter(image, 8, (1, 3), (2, 5)), self.DUE * 2)
+        for size in ((1, 10), (5, 2)):
+            with self.assertRaises(ValueError):
+                cm.filter(image, 8, (1, 3), size)
+        for wrong in ({"mask": 15}, {"mask": (1, 3, 5)}, {"mask": (1, 3), "size": 10}, {"mask": (1, 3.0)}):
+            with self.assertRaises(TypeError):
+                cm.filter(self.ROW, 8, **wrong)
+        wide = memoryview(bytearray(24)).cast("H", (2, 6))
+        with self.assertRaises(TypeError):
+            cm.filter(image, 8, (1, 3), output=wide)
+        with self.assertRaises(TypeError):
+            cm.drift(8, image)
         output = array("H", [9]) * 11
         cm.filter(image, 8, (1, 3), output=memoryview(output))
         self.assertEqual(output, self.DUE * 2 + array("H", [9]))
@@ -412,12 +428,22 @@ class Buffers(unittest.TestCase):
         self.assertEqual(data, Records.PAPER + b"\0")
 
     def test_buffers_are_given_back(self):
-        """An array that was lent can grow again, after a result and after a refusal."""
-        for c in (8, 0):
-            readings, output = array("H", self.ROW), array("H", [9]) * 5
-            told(cm.filter, readings, c, (1, 3), output=output)
-            readings.append(1)
-            output.append(1)
+        """What was lent can grow again, after a result and after a refusal, also while that is looked at."""
+        readings, output, data = array("H", [0, 8]), array("H", [9]) * 2, bytearray(Records.PAPER[:34])
+        refusals = 0
+        for call in (lambda: cm.filter(readings, 8, (1, 3), output=output), lambda: cm.drift(8, readings),
+                     lambda: cm.write_record(readings, 8, (1, 3)), lambda: cm.read_record(data), lambda: cm.read_record(data, output)):
+            try:
+                call()
+            except cm.Refused:
+                refusals += 1
+                for each in (readings, output, data):
+                    each.append(each.pop())
+        self.assertEqual(refusals, 5)
+        readings[1] = 1
+        cm.filter(readings, 8, (1, 3), output=output)
+        for each in (readings, output):
+            each.append(1)
 
     def test_empty(self):
         for readings in (array("H"), memoryview(b"").cast("H")):
@@ -453,30 +479,67 @@ class NumPy(unittest.TestCase):
                       image.T, image[:, ::2], image[0, 0]):
             with self.assertRaises(TypeError):
                 cm.filter(wrong, 8, (1, 3))
-        for output in (kept, kept.astype(numpy.int16), numpy.zeros((3, 2), numpy.uint16).T):
+        masked = numpy.ma.array([1, 4, 1], mask=[0, 1, 0], dtype=numpy.uint16)
+        for call in (lambda: cm.filter(masked, 8, (1, 3)), lambda: cm.drift(8, masked)):
+            with self.assertRaises(TypeError):
+                call()
+        self.assertEqual(cm.drift(8, masked.filled(cm.SILENT)), 0)
+        for output in (kept, kept.astype(numpy.int16), numpy.zeros((3, 2), numpy.uint16).T, numpy.zeros((3, 2), numpy.uint16)):
             with self.assertRaises(TypeError):
                 cm.filter(image, 8, (1, 3), output=output)
+
+
+class Readme(unittest.TestCase):
+    """The examples for Python in README.md and bindings/README.md do what the comments beside them say."""
+
+    def test_examples(self):
+        here = os.getcwd()
+        self.addCleanup(os.chdir, here)
+        os.chdir(ROOT)
+        for names in (("README.md",), ("bindings", "README.md")):
+            (block,) = re.findall(r"```python\n(.*?)```", text(*names), re.S)
+            lines, told_here = block.split("\n"), 0
+            variables = {}
+            for node in ast.parse(block).body:
+                due = lines[node.end_lineno - 1].partition("  #")[2].strip().rstrip(". ")
+                value = self.value(node, variables)
+                if due.startswith(("array(", "[", "raises")) or re.match(r"-?[0-9]+$", due):
+                    self.assertEqual(value[:len(due)], due)
+                    told_here += 1
+            self.assertGreater(told_here, 1)
+
+    @staticmethod
+    def value(node, variables):
+        """What a statement gives: the value of an expression or of what it assigns, or a refusal."""
+        try:
+            with contextlib.redirect_stdout(io.StringIO()):
+                if isinstance(node, ast.Expr):
+                    return repr(eval(compile(ast.Expression(node.value), "README", "eval"), variables))
+                exec(compile(ast.Module([node], []), "README", "exec"), variables)
+        except cm.Refused as refused:
+            return f"raises Refused: {refused}"
+        return repr(variables.get(node.targets[0].id)) if isinstance(node, ast.Assign) else ""
 
 
 class Library(unittest.TestCase):
     """How the library is found."""
 
-    def imported(self, folder):
-        """What Python says at the end of an import with the library of a folder."""
-        environment = {**os.environ, "CIRCLE_MEDIAN_LIB": folder}
-        run = subprocess.run([sys.executable, "-c", "import circle_median"], cwd=HERE, env=environment, capture_output=True, text=True)
+    def called(self, folder):
+        """What Python says at the end of a call with the library of a folder, where the system has one too."""
+        environment = {**os.environ, "CIRCLE_MEDIAN_LIB": folder, "LD_LIBRARY_PATH": os.path.dirname(cm._library()._name)}
+        run = subprocess.run([sys.executable, "-c", "import circle_median; circle_median.distance(8, 1, 2)"], cwd=HERE, env=environment, capture_output=True, text=True)
         return run.returncode, run.stderr.strip().split("\n")[-1]
 
     def test_missing(self):
-        status, said = self.imported(os.path.join(HERE, "no such folder"))
+        status, said = self.called(os.path.join(HERE, "no such folder"))
         self.assertEqual(status, 1)
         self.assertRegex(said, r"^ImportError: circle_median has no library: .*make shared")
 
     def test_named(self):
-        folder = os.path.dirname(cm._library._name)
+        folder = os.path.dirname(cm._library()._name)
         if not folder:
             self.skipTest("the library is the system's")
-        self.assertEqual(self.imported(folder), (0, ""))
+        self.assertEqual(self.called(folder), (0, ""))
 
 
 if __name__ == "__main__":
