@@ -13,7 +13,12 @@ DESTDIR =
 to = $(DESTDIR)$(PREFIX)
 share = share/circle_median
 version = $(shell sed -n 's/^version = "\(.*\)"/\1/p' bindings/rust/Cargo.toml)
-programs = $(wildcard apps/*.py) apps/page.css bindings/python/circle_median.py
+
+ifneq ($(filter install uninstall,$(MAKECMDGOALS)),)
+ifeq ($(filter /%,$(PREFIX)),)
+$(error PREFIX has to begin with a /)
+endif
+endif
 
 all:
 	@tools/build library shared sheet
@@ -22,13 +27,13 @@ shared:
 	@tools/build shared
 
 install: all
-	$(if $(filter /%,$(PREFIX)),,$(error PREFIX has to begin with a /))
 	install -D -m 644 -t '$(to)/include' include/circle_median.h
 	install -D -m 644 -t '$(to)/lib' crates/circle_median/out/libcircle_median.a
 	install -D -m 755 -t '$(to)/lib' target/lib/libcircle_median.so.0
 	ln -sf libcircle_median.so.0 '$(to)/lib/libcircle_median.so'
 	install -D -m 755 -t '$(to)/bin' crates/bench_sheet/out/bench_sheet
-	install -D -m 644 -t '$(to)/$(share)' $(programs)
+	install -D -m 644 -t '$(to)/$(share)' bindings/python/circle_median.py
+	install -D -m 644 -t '$(to)/$(share)/apps' apps/*.py apps/page.css
 	install -d '$(to)/lib/pkgconfig'
 	sed -e 's|@PREFIX@|$(PREFIX)|' -e 's|@VERSION@|$(version)|' bindings/circle_median.pc.in >'$(to)/lib/pkgconfig/circle_median.pc'
 	for name in record picture; do \

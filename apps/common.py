@@ -83,6 +83,11 @@ def told(refused: Refused) -> str:
     return f"{refused}{'; it does not begin as a bench record does' if is_other else ''}"
 
 
+def no_tick(cell: object, cycle: int) -> str:
+    """What is wrong with a number that is no tick."""
+    return f"{cell} is no tick of a cycle of {cycle}"
+
+
 def run(main: Callable[[], None]) -> None:
     """Runs a program; what stops it is one line."""
     try:

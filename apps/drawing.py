@@ -10,6 +10,12 @@ def number(x: float) -> str:
     return f"{x:.2f}".rstrip("0").rstrip(".") if x % 1 else str(int(x))
 
 
+def svg(kind: str, box: str, words: str = "") -> str:
+    """The head of a drawing; without words it says nothing to who cannot see it."""
+    role = f'role="img" aria-label="{html.escape(words)}"' if words else 'aria-hidden="true"'
+    return f'<svg xmlns="http://www.w3.org/2000/svg" class="{kind}" viewBox="{box}" {role}>'
+
+
 def text(x: float, y: float, words: object, kind: str) -> str:
     """Words at a place, of a class of the page's style."""
     return f'<text x="{number(x)}" y="{number(y)}" class="{kind}">{html.escape(str(words))}</text>'
@@ -30,10 +36,10 @@ def nice(least: float) -> int:
 
 
 def marks(cycle: int, parts: tuple[int, ...], least: float = 1) -> range:
-    """The ticks of a cycle that are marked, at least so far apart: as many as the first of `parts` that divides it evenly, else
-    round numbers, of which none is close to the cycle's end."""
-    even = next((cycle // n for n in parts if cycle % n == 0 and cycle // n >= least), 0)
-    spacing = even or nice(max(least, cycle / parts[0]))
+    """The ticks of a cycle that are marked, at least so far apart: as many as the first of `parts` that divides it into numbers of up
+    to four digits, else round numbers, of which none is close to the cycle's end."""
+    even = (cycle // n for n in parts if cycle % n == 0)
+    spacing = next((each for each in even if least <= each < 10_000), 0) or nice(max(1, least))
     return range(0, max(1, cycle - spacing // 2), spacing)
 
 

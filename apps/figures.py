@@ -11,6 +11,7 @@ from typing import Callable, Iterator, NamedTuple, Optional
 
 import circle_median
 from circle_median import SILENT
+from drawing import spelled
 
 # How many answers of a call on two ticks are kept, so that the same is not asked again and again.
 KEPT = 1 << 18
@@ -47,6 +48,11 @@ class Label(NamedTuple):
     thrown: set[int]
     silent: int
     outside: list[int]
+
+
+def words_of(label: Label) -> str:
+    """A label's figures in words."""
+    return f"label {label.index}: first {spelled(label.first)}, last {spelled(label.last)}, drift {label.drift}"
 
 
 def _kept(call: Callable[..., int], *before: int) -> Callable[[int, int], int]:

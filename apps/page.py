@@ -6,11 +6,11 @@ from __future__ import annotations
 
 import html
 import os
-from typing import Iterator
+from typing import Iterable, Iterator
 
 from circle_median import Refused
 from dial import dial, drawn_of, way_of
-from drawing import count, joined, spelled
+from drawing import count, joined, spelled, svg
 from figures import Bench, Label
 from strip import bins_of, strip
 
@@ -18,16 +18,20 @@ from strip import bins_of, strip
 LONG = 24
 
 MARKS = {"steady": "", "ahead": "\u25b2 ahead", "back": "\u25bc back"}
+LEAVES = "\u25c6 leaves"
 
-# The swatches of the legends: a class of the style and how it is drawn.
-_DOT, _STROKE = "M15 6h0", "M2 6H28"
+# The swatches of the legends: a class of the style, how it is drawn, and the class of what it stands in.
+_DOT, _STROKE = "M15 6h.01", "M2 6H28"
 STRIP_LEGEND = (
-    ("near", _DOT, "reading"), ("thrown", _DOT, "thrown reading"), ("line", _STROKE, "filtered phase, going on over zero"),
-    ("silent", "M9 6H21", "silent wake"), ("zero", _STROKE, "tick 0"),
+    ("near", _DOT, "strip", "reading"), ("thrown", _DOT, "strip", "thrown reading"),
+    ("line", _STROKE, "strip", "filtered phase, going on over zero"), ("silent", "M9 6H21", "strip", "silent wake"),
+    ("zero", _STROKE, "strip", "tick 0"),
 )
 DIAL_LEGEND = (
-    ("first", _STROKE, "first phase"), ("last", _STROKE, "last phase"), ("arc", _STROKE, "drift from first to last"),
+    ("first", _STROKE, "hands", "first phase"), ("last", _STROKE, "hands", "last phase, with the label's number"),
+    ("arc", _STROKE, "hands ahead", "drift ahead"), ("arc", _STROKE, "hands back", "drift back"),
 )
+SLOT_LEGEND = (("slot", "M2 1H28V11H2Z", "strip", "listening slot"),)
 
 
 def _whole(title: str, parts: Iterator[str]) -> str:
@@ -42,38 +46,44 @@ def _whole(title: str, parts: Iterator[str]) -> str:
     ]) + "\n"
 
 
+def _option(words: str) -> str:
+    return f'<span class="option">({words})</span>'
+
+
 def _facts(bench: Bench) -> Iterator[str]:
     """What the page calls thrown, drifting and outside, and what it leaves undrawn."""
     limits = bench.limits
-    yield f"<li>thrown: a reading more than {count(limits.thrown, 'tick')} from its filtered phase (--thrown {limits.thrown})</li>"
-    yield f"<li>drifting: by more than {count(limits.drift, 'tick')} ahead or back (--drift {limits.drift})</li>"
+    thrown, drift = _option(f"--thrown {limits.thrown}"), _option(f"--drift {limits.drift}")
+    yield f"<li>thrown: a reading more than {count(limits.thrown, 'tick')} from its filtered phase {thrown}</li>"
+    yield f"<li>drifting: by more than {count(limits.drift, 'tick')} ahead or back {drift}</li>"
     if limits.slot:
         start, width = limits.slot
-        end = (start + width) % bench.cycle
-        yield f"<li>listening slot: from tick {start} to tick {end}, {count(width, 'tick')} wide (--slot {start},{width})</li>"
+        end, slot = (start + width) % bench.cycle, _option(f"--slot {start},{width}")
+        yield f"<li>listening slot: from tick {start} to tick {end}, {count(width, 'tick')} wide {slot}</li>"
     if bins_of(bench) < bench.wakes:
         yield f"<li>strips draw the wakes in {bins_of(bench):,} groups; every figure counts every wake</li>"
 
 
-def _outside(label: Label) -> str:
-    """How often a label is outside the slot, and from which wake on."""
-    wakes = label.outside
-    return f'<td class="leaves">{len(wakes)}</td><td class="leaves">{wakes[0]}</td>' if wakes else "<td>0</td><td>-</td>"
+def _marks(label: Label) -> str:
+    """What a label does, in words with a sign: not by colour alone."""
+    marks = (MARKS[way_of(label)], LEAVES if label.outside else "")
+    return ", ".join(f'<span class="{kind}">{words}</span>' for kind, words in zip((way_of(label), "leaves"), marks) if words)
 
 
 def _row(bench: Bench, label: Label) -> str:
-    way = way_of(label)
-    cells = "".join(f"<td>{cell}</td>" for cell in (spelled(label.first), spelled(label.last), label.drift))
-    rest = "".join(f"<td>{cell}</td>" for cell in (len(label.thrown), label.silent))
-    slot = _outside(label) if bench.limits.slot else ""
+    cells = [spelled(label.first), spelled(label.last), label.drift, len(label.thrown), label.silent]
+    if bench.limits.slot:
+        cells += [len(label.outside), *((label.outside[0], label.outside[-1]) if label.outside else "--")]
     link = f'<th scope="row"><a href="#label-{label.index}">{label.index}</a></th>'
-    return f'<tr class="{way}">{link}{cells}<td class="mark">{MARKS[way]}</td>{rest}{slot}</tr>'
+    told = "".join(f"<td>{cell}</td>" for cell in cells)
+    return f'<tr class="{way_of(label)}" id="row-{label.index}">{link}{told}<td class="mark">{_marks(label)}</td></tr>'
 
 
 def _table(bench: Bench, labels: list[Label]) -> Iterator[str]:
-    heads = ["label", "first phase", "last phase", "drift", "drifting", "thrown wakes", "silent wakes"]
+    heads = ["label", "first phase", "last phase", "drift", "thrown wakes", "silent wakes"]
     if bench.limits.slot:
-        heads += ["outside slot", "from wake"]
+        heads += ["outside slot", "first outside", "last outside"]
+    heads.append("marks")
     long = " long" if len(labels) > LONG else ""
     yield f'<div class="rack{long}"><table><caption>phases and drift in ticks; {_drifting(labels)}</caption>'
     yield "<thead><tr>" + "".join(f'<th scope="col">{head}</th>' for head in heads) + "</tr></thead><tbody>"
@@ -86,31 +96,29 @@ def _drifting(labels: list[Label]) -> str:
     return f"{sum(label.drifts for label in labels)} of {count(len(labels), 'label')} drifting"
 
 
-def _legend(entries: tuple[tuple[str, str, str], ...], kind: str) -> Iterator[str]:
+def _legend(entries: Iterable[tuple[str, str, str, str]]) -> Iterator[str]:
     yield '<ul class="legend">'
-    for entry, drawn, words in entries:
-        yield f'<li><svg viewBox="0 0 30 12" class="{kind}"><path class="{entry}" d="{drawn}"/></svg>{words}</li>'
+    for entry, drawn, kind, words in entries:
+        yield f'<li>{svg(kind, "0 0 30 12")}<path class="{entry}" d="{drawn}"/></svg>{words}</li>'
     yield "</ul>"
 
 
-def _slot_legend(bench: Bench) -> tuple[tuple[str, str, str], ...]:
-    return (("slot", "M2 1H28V11H2Z", "listening slot"),) if bench.limits.slot else ()
-
-
 def _left_out(labels: list[Label]) -> Iterator[str]:
-    """What the dial does not have."""
+    """What a hand's length means, and what the dial does not have."""
+    yield '<p class="facts">Each label has a ring of its own, for which its hands are longer or shorter.'
     drawn = len(drawn_of(labels))
     if drawn < sum(label.first is not None for label in labels):
-        yield f'<p class="facts">the dial has the {drawn} labels that drift most</p>'
+        yield f"The dial has the {drawn} labels that drift most."
+    yield "Numbers that would overlap are left out.</p>"
 
 
 def _section(bench: Bench, label: Label) -> str:
-    way = way_of(label)
-    mark = f' <span class="mark">{MARKS[way]}</span>' if MARKS[way] else ""
     figures = "never heard" if label.first is None else f"{label.first} to {label.last}, drift {label.drift}"
+    turns = f", {abs(label.drift) / bench.cycle:.1f} turns" if abs(label.drift) >= bench.cycle else ""
     return joined([
-        f'<section class="label {way}" id="label-{label.index}">',
-        f'<h3>label {label.index} <span class="figures">{figures}</span>{mark}</h3>', strip(bench, label), "</section>",
+        f'<section class="label" id="label-{label.index}">',
+        f'<h3><a href="#row-{label.index}">label {label.index}</a> <span class="figures">{figures}{turns}</span> {_marks(label)}</h3>',
+        f'<div class="wide">{strip(bench, label)}</div>', "</section>",
     ])
 
 
@@ -124,9 +132,9 @@ def _body(bench: Bench, title: str) -> Iterator[str]:
     yield f'<p class="lead">{count(bench.labels, "label")}, {count(bench.wakes, "wake")}, a cycle of {count(bench.cycle, "tick")}, '
     yield f"a mask of {mask_rows} by {mask_columns}</p>"
     yield from ('<ul class="facts">', *_facts(bench), "</ul>", '<div class="top">', *_table(bench, labels))
-    yield from ('<div class="round">', dial(bench, labels), *_legend(DIAL_LEGEND + _slot_legend(bench), "dial hands"))
-    yield from (*_left_out(labels), "</div>", "</div>")
-    yield from ("<h2>Label by label</h2>", *_legend(STRIP_LEGEND + _slot_legend(bench), "strip"), *strips)
+    slot = SLOT_LEGEND if bench.limits.slot else ()
+    yield from ('<div class="round">', dial(bench, labels), *_legend(DIAL_LEGEND + slot), *_left_out(labels), "</div>", "</div>")
+    yield from ("<h2>Label by label</h2>", *_legend(STRIP_LEGEND + slot), *strips)
     yield "<footer>Phases, distances, steps and drift are those of the proved library. First and last phase are those of the first and"
     yield "last wake whose filtered phase is heard. A strip goes on over zero: its axis tells ticks of the cycle.</footer>"
 
@@ -137,10 +145,10 @@ def page(bench: Bench, title: str) -> str:
 
 
 def refused_page(refused: Refused, title: str) -> str:
-    """The page of a record that is refused."""
+    """The page of a record that is refused. The paper gives a reading's index, or an offset in bytes, or no place."""
+    place = "-" if refused.number < 9 else f"reading {refused.place}" if refused.number == 9 else f"byte {refused.place}"
+    cells = (("number", refused.number), ("place", place), ("reason", html.escape(refused.reason)))
     return _whole(f"{title} is refused", iter([
         f"<h1>{html.escape(title)}</h1>", '<p class="lead">The record is refused.</p>', '<table class="refused"><tbody>',
-        f'<tr><th scope="row">number</th><td class="mark">{refused.number}</td></tr>',
-        f'<tr><th scope="row">place</th><td class="mark">{refused.place}</td></tr>',
-        f'<tr><th scope="row">reason</th><td class="mark">{html.escape(refused.reason)}</td></tr>', "</tbody></table>",
+        *(f'<tr><th scope="row">{head}</th><td class="mark">{cell}</td></tr>' for head, cell in cells), "</tbody></table>",
     ]))

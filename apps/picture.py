@@ -8,7 +8,8 @@ import argparse
 import os
 
 from circle_median import Refused
-from common import Parser, given, name, sides, stop, taken
+from common import Parser, given, name, named, no_tick, pair, run, say, stop, taken, told, whole
+from drawing import count
 from figures import Bench
 from page import page, refused_page
 
@@ -16,14 +17,18 @@ from page import page, refused_page
 REFUSED = 3
 
 
-def _ticks(text: str) -> int:
-    if not text.isdecimal():
-        raise argparse.ArgumentTypeError(f"{text!r} is no number of ticks")
-    return int(text)
+# Above how many wakes of all labels drawing takes so long that it is told.
+LONG = 2_000_000
 
 
 def _slot(text: str) -> tuple[int, int]:
-    return sides(text, ",", "350,20, start and width")
+    return pair(text, ",", "350,20, start and width")
+
+
+def title_of(words: str) -> str:
+    """A title without what a page cannot hold."""
+    plain = words.encode(errors="surrogateescape").decode(errors="replace")
+    return "".join(each if each.isprintable() else "\ufffd" for each in plain)
 
 
 def _parser() -> Parser:
@@ -34,14 +39,14 @@ def _parser() -> Parser:
         f"output. Of a record that is refused the page says so, and the exit status is {REFUSED}.",
         epilog="example:\n  %(prog)s --slot 80,40 bench.record > bench.html",
     )
-    parser.add_argument("--thrown", type=_ticks, metavar="TICKS",
+    parser.add_argument("--thrown", type=whole, metavar="TICKS",
                         help="a reading is thrown if it is more than so far from its filtered phase; else a thirty-sixth of the cycle")
-    parser.add_argument("--drift", type=_ticks, metavar="TICKS",
+    parser.add_argument("--drift", type=whole, metavar="TICKS",
                         help="a label drifts if it does by more than so much, ahead or back; else a thirty-sixth of the cycle")
     parser.add_argument("--slot", type=_slot, metavar="S,W", help="shades the listening slot that starts at tick S and is W wide, "
                         "and marks the labels that leave it")
     parser.add_argument("--title", help="the page's title; else the file's name")
-    parser.add_argument("file", nargs="?", metavar="RECORD", help="a record; else standard input")
+    parser.add_argument("file", nargs="?", metavar="RECORD", help="a record; else, or by a -, standard input")
     return parser
 
 
@@ -50,23 +55,25 @@ def listen(bench: Bench, start: int, width: int) -> None:
     try:
         bench.listen(start, width)
     except Refused as refused:
-        stop(f"--slot {start},{width}: {refused}")
+        stop(f"--slot {start},{width}: {no_tick((None, start, width)[refused.place], bench.cycle)}")
 
 
 def main() -> None:
     """The program."""
     asked = _parser().parse_args()
     data = taken(asked.file)
-    title = asked.title or os.path.basename(asked.file or "") or "bench record"
+    title = title_of(asked.title or os.path.basename(named(asked.file)))
     try:
         bench = Bench(data, asked.thrown, asked.drift)
     except Refused as refused:
         given(refused_page(refused, title).encode())
-        stop(f"{asked.file or 'standard input'}: {refused}", REFUSED)
+        stop(f"{named(asked.file)}: {told(refused)}", REFUSED)
     if asked.slot:
         listen(bench, *asked.slot)
+    if bench.labels * bench.wakes > LONG:
+        say(f"drawing {count(bench.labels, 'label')} of {count(bench.wakes, 'wake')}, which takes a while")
     given(page(bench, title).encode())
 
 
 if __name__ == "__main__":
-    main()
+    run(main)

@@ -9,7 +9,7 @@ import argparse
 import circle_median
 import table
 from circle_median import SILENT, Record, Refused
-from common import Parser, given, name, named, pair, run, say, stop, taken, told, whole
+from common import Parser, given, name, named, no_tick, pair, run, say, stop, taken, told, whole
 from drawing import count
 
 # The numbers of the refusals that speak of an option, of the size or of a cell.
@@ -41,7 +41,7 @@ def _why(refused: Refused, parsed: table.Table, cycle: int, mask: tuple[int, int
     if refused.number == MASK:
         return BadOption(f"--mask {mask[0]}x{mask[1]}: {refused}")
     if refused.number == READING:
-        return table.BadTable(f"{parsed.place(refused.place)}: {table.no_tick(parsed.readings[refused.place], cycle)}")
+        return table.BadTable(f"{parsed.place(refused.place)}: {no_tick(parsed.readings[refused.place], cycle)}")
     labels, wakes = parsed.size
     return table.BadTable(f"{count(labels, 'label')} by {count(wakes, 'wake')}: {refused}")
 

@@ -1,4 +1,4 @@
-"""The strip of a label: its readings as dots, its filtered phase as a line, silent wakes as gaps, over the wakes.
+"""The strip of a label: its readings as dots, its filtered phase as a line, silent wakes as gaps and in a lane of their own.
 
 Paths are in wakes and ticks, as the figures have them; a transform lays them into the strip. A tick is drawn where the label is as
 it goes on over zero, so that the line never falls through the whole cycle; the axis tells ticks of the cycle.
@@ -8,23 +8,26 @@ from __future__ import annotations
 from itertools import groupby
 from typing import Iterable, Iterator, NamedTuple
 
-from drawing import joined, marks, nice, number, path, text
-from figures import Bench, Label
+from drawing import joined, marks, nice, number, path, svg, text
+from figures import Bench, Label, words_of
 
-# The strip, in its own units: the drawing's width and margins, what a cycle is high, and the least and the most height.
-WIDTH, LEFT, RIGHT, TOP, BOTTOM = 1000, 44, 12, 18, 30
-CYCLE_HEIGHT, LEAST, MOST = 120, 60, 360
+# The strip, in its own units: the drawing's width and margins, what a cycle is high, and the most height.
+WIDTH, LEFT, RIGHT, TOP, BOTTOM = 1000, 60, 12, 18, 44
+CYCLE_HEIGHT, MOST = 120, 360
+
+# Below the axis lies the lane of silent wakes. What is narrower could not be seen; there the lane has bars as high as wakes are silent.
+LANE, BAR, NARROWEST = 14, 9, 1.5
 
 # Marks of an axis are so far apart at least.
 APART, APART_WAKES = 22, 70
 
-# How many points of wakes a page draws, and a strip at least and at most.
-POINTS, FEWEST, FINEST = 200_000, 150, 2_000
+# How many bins of wakes a page is drawn in, and a strip at least and at most.
+BINS, FEWEST, FINEST = 200_000, 150, 2_000
 
 
 def bins_of(bench: Bench) -> int:
     """How many bins a strip's wakes are drawn in: as many as there are wakes, if the page can have so many."""
-    return min(bench.wakes, max(FEWEST, min(FINEST, POINTS // bench.labels)))
+    return min(bench.wakes, max(FEWEST, min(FINEST, BINS // bench.labels)))
 
 
 class Frame(NamedTuple):
@@ -55,35 +58,51 @@ class Frame(NamedTuple):
 
 
 def frame_of(bench: Bench, label: Label) -> Frame:
-    """All strips have the same scale, but for those that would be too high or too low."""
-    drawn = [at for at in (*label.unrolled, *label.placed) if at is not None] or [0, bench.cycle]
-    low, high = min(drawn) - 0.5, max(drawn) + 0.5
-    height = min(MOST, max(LEAST, (high - low) * CYCLE_HEIGHT / bench.cycle))
+    """A strip has half a cycle at least. All have the same scale, but for those that would be too high."""
+    drawn = [at for at in (*label.unrolled, *label.placed) if at is not None] or [0]
+    wider = max(0.0, bench.cycle / 2 - (max(drawn) + 1 - min(drawn))) / 2
+    low, high = min(drawn) - 0.5 - wider, max(drawn) + 0.5 + wider
+    height = min(MOST, (high - low) * CYCLE_HEIGHT / bench.cycle)
     return Frame(low, high, height / (high - low), (WIDTH - LEFT - RIGHT) / bench.wakes)
 
 
-# What is drawn of the wakes.
+# What is drawn of the wakes. A dot is a line that is short, and not of no length, which is not printed.
+DOT = "h.01"
 
 
 def _line_wakes(label: Label, wakes: int, bins: int, tick: float) -> Iterator[list[int]]:
-    """The wakes of each bin that the line goes through: the first and last, and where it is lowest and highest, without those that
-    would lie on one before."""
-    heard = (wake for wake, at in enumerate(label.unrolled) if at is not None)
+    """The wakes of each bin that the line goes through: the first and last, and where it is lowest and highest if that can be told
+    from them."""
+    at = label.unrolled.__getitem__
+    heard = (wake for wake, phase in enumerate(label.unrolled) if phase is not None)
     for _, some in groupby(heard, lambda wake: wake * bins // wakes):
-        each, at = list(some), label.unrolled.__getitem__
-        kept = {round(at(wake) * tick): wake for wake in (each[-1], max(each, key=at), min(each, key=at), each[0])}
-        yield sorted(kept.values())
+        each = list(some)
+        kept = {round(at(wake) * tick): wake for wake in (max(each, key=at), min(each, key=at))}
+        for end in (each[0], each[-1]):
+            kept.pop(round(at(end) * tick), None)
+        yield sorted({each[0], each[-1], *kept.values()})
+
+
+def _runs(label: Label, wakes: int, bins: int, tick: float) -> Iterator[list[int]]:
+    """The wakes that the line goes through without a break. It is broken where a whole bin is silent."""
+    run: list[int] = []
+    for some in _line_wakes(label, wakes, bins, tick):
+        if run and some[0] * bins // wakes - run[-1] * bins // wakes > 1:
+            yield run
+            run = []
+        run += some
+    if run:
+        yield run
 
 
 def line_of(label: Label, wakes: int, bins: int, tick: float) -> str:
-    """The line of the filtered phase. It is broken where a whole bin is silent."""
-    words, before = [], -2 * wakes
-    for some in _line_wakes(label, wakes, bins, tick):
-        is_near = some[0] * bins // wakes - before * bins // wakes <= 1
-        words.append(f"{'L' if is_near else 'M'}{some[0]} {label.unrolled[some[0]]}" + ("" if is_near else "h0"))
-        words += (f"L{wake} {label.unrolled[wake]}" for wake in some[1:])
-        before = some[-1]
-    return "".join(words)
+    """The line of the filtered phase, without the points between two of the same height."""
+    words, at = [], label.unrolled.__getitem__
+    for run in _runs(label, wakes, bins, tick):
+        bends = (wake for before, wake, after in zip(run, run[1:], run[2:]) if not at(before) == at(wake) == at(after))
+        points = [run[0], *bends, *run[1:][-1:]]
+        words.append("L".join(f"{wake} {at(wake)}" for wake in points) + (DOT if len(points) == 1 else ""))
+    return "M" + "M".join(words) if words else ""
 
 
 def dots_of(label: Label, which: Iterable[int], wakes: int, bins: int, tick: float) -> str:
@@ -94,60 +113,78 @@ def dots_of(label: Label, which: Iterable[int], wakes: int, bins: int, tick: flo
         spot = wake * bins // wakes, round(at * tick)
         if spot not in seen:
             seen.add(spot)
-            words.append(f"M{wake} {at}h0")
+            words.append(f"M{wake} {at}{DOT}")
     return "".join(words)
 
 
-def silence_of(label: Label, wakes: int, bins: int) -> str:
+def silence_of(label: Label) -> str:
     """The wakes that were not heard, as strokes from the first to the last of some that follow each other."""
     silent = (wake for wake, at in enumerate(label.placed) if at is None)
-    words, end = [], -2
-    for first, some in ((next(some), some) for _, some in groupby(silent, lambda wake: wake * bins // wakes)):
-        last = max((first, *some))
-        if words and first == end + 1:
-            words[-1] = words[-1].partition("H")[0] + f"H{last}.5"
-        else:
-            words.append(f"M{number(first - 0.5)} 0H{last}.5")
-        end = last
+    runs = (list(run) for _, run in groupby(enumerate(silent), lambda pair: pair[1] - pair[0]))
+    return "".join(f"M{number(run[0][1] - 0.5)} 0H{number(run[-1][1] + 0.5)}" for run in runs)
+
+
+def shares_of(label: Label, wakes: int, bars: int) -> str:
+    """How many of the wakes of each bar were not heard, where single ones are too narrow: a bar is the higher the more they are."""
+    words = []
+    for bar in range(bars):
+        first, end = bar * wakes // bars, (bar + 1) * wakes // bars
+        silent = label.placed[first:end].count(None)
+        if silent:
+            words.append(f"M{number((first + end - 1) / 2)} 0v{number(-max(1, BAR * silent / (end - first)))}")
     return "".join(words)
+
+
+def _silence(label: Label, wakes: int, frame: Frame) -> str:
+    if frame.wake >= NARROWEST:
+        return path("silent", silence_of(label))
+    return path("silent share", shares_of(label, wakes, int(wakes * frame.wake / NARROWEST / 1.25)))
 
 
 # The frame.
 
 
-def _tick_marks(bench: Bench, frame: Frame) -> Iterator[tuple[int, bool]]:
-    """The unrolled ticks that are marked, and whether each is the cycle's zero."""
+def _tick_marks(bench: Bench, frame: Frame) -> Iterator[int]:
+    """The unrolled ticks that are marked."""
     cycle, least = bench.cycle, APART / frame.tick
-    ticks, turns = marks(cycle, (4, 5, 3, 6, 2, 1), least), max(1, -(-int(least) // cycle))
+    ticks, turns = marks(cycle, (4, 5, 3, 6, 2), least), max(1, -(-int(least) // cycle))
     for turn in range(int(frame.low // cycle), int(frame.high // cycle) + 1):
-        for at in (turn * cycle + tick for tick in ticks if turn % turns == 0):
-            if frame.low <= at <= frame.high:
-                yield at, at % cycle == 0
+        yield from (turn * cycle + tick for tick in ticks if turn % turns == 0 and frame.low <= turn * cycle + tick <= frame.high)
 
 
-def _axes(bench: Bench, frame: Frame) -> Iterator[str]:
-    """The marks of both axes, with ticks of the cycle and wakes."""
-    end = WIDTH - RIGHT
-    for at, is_zero in _tick_marks(bench, frame):
-        y = frame.y(at)
-        yield path("zero" if is_zero else "grid", f"M{LEFT} {number(y)}H{end}")
-        yield text(LEFT - 6, y + 3.5, at % bench.cycle, "mark right")
-    every = nice(APART_WAKES / frame.wake)
-    for wake in range(0, bench.wakes, every):
-        x = frame.x(wake)
-        yield path("grid", f"M{number(x)} {number(frame.bottom + 6)}v4")
-        yield text(x, frame.bottom + 20, wake, "mark middle")
-    yield text(LEFT - 10, frame.bottom + 20, "wake", "mark right unit")
+def _tick_axis(bench: Bench, frame: Frame) -> Iterator[str]:
+    """Ticks of the cycle; of several zeros each says of which turn it is."""
+    shown = list(_tick_marks(bench, frame))
+    zeros = [at for at in shown if at % bench.cycle == 0]
+    for at in shown:
+        y, is_zero = frame.y(at), at % bench.cycle == 0
+        yield path("zero" if is_zero else "grid", f"M{LEFT} {number(y)}H{WIDTH - RIGHT}")
+        turn = f"turn {at // bench.cycle}: " if is_zero and len(zeros) > 1 else ""
+        yield text(LEFT - 6, y + 3.5, f"{turn}{at % bench.cycle}", "mark right")
     yield text(LEFT - 6, TOP - 9, "tick", "mark right unit")
 
 
+def _wake_axis(bench: Bench, frame: Frame) -> Iterator[str]:
+    """Wakes, and the lane of the silent ones."""
+    every = nice(APART_WAKES / frame.wake)
+    for wake in range(0, bench.wakes, every):
+        x = frame.x(wake)
+        yield path("zero", f"M{number(x)} {number(frame.bottom + LANE + 6)}v4")
+        yield text(x, frame.bottom + LANE + 20, wake, "mark middle")
+    yield path("grid", f"M{LEFT} {number(frame.bottom + LANE)}H{WIDTH - RIGHT}")
+    yield text(LEFT - 6, frame.bottom + LANE + 3.5, "silent", "mark right unit")
+    yield text(LEFT - 10, frame.bottom + LANE + 20, "wake", "mark right unit")
+
+
 def _slots(bench: Bench, frame: Frame) -> Iterator[str]:
-    """The listening slot, as often as the strip goes around."""
+    """The listening slot, as often as the strip goes around, and never too narrow to be seen."""
     if bench.limits.slot is None:
         return
     start, width = bench.limits.slot
+    half = max(0.5, NARROWEST / 2 / frame.tick)
     for turn in range(int(frame.low // bench.cycle) - 1, int(frame.high // bench.cycle) + 1):
-        low, high = max(frame.low, turn * bench.cycle + start - 0.5), min(frame.high, turn * bench.cycle + start + width + 0.5)
+        first = turn * bench.cycle + start
+        low, high = max(frame.low, first - half), min(frame.high, first + width + half)
         if low < high:
             yield f'<rect class="slot" x="-0.5" y="{number(low)}" width="{bench.wakes}" height="{number(high - low)}"/>'
 
@@ -158,15 +195,15 @@ def strip(bench: Bench, label: Label) -> str:
     heard = [wake for wake, at in enumerate(label.placed) if at is not None]
     near = (wake for wake in heard if wake not in label.thrown)
     return joined([
-        f'<svg class="strip" viewBox="0 0 {WIDTH} {number(frame.bottom + BOTTOM)}" role="img" aria-label="label {label.index}">',
+        svg("strip", f"0 0 {WIDTH} {number(frame.bottom + BOTTOM)}", words_of(label)),
         f'<g transform="{frame.placed}">', *_slots(bench, frame), "</g>",
-        *_axes(bench, frame),
+        *_tick_axis(bench, frame), *_wake_axis(bench, frame),
         f'<g transform="{frame.placed}">',
         path("near", dots_of(label, near, wakes, bins, frame.tick)),
         path("thrown", dots_of(label, sorted(label.thrown), wakes, bins, frame.tick)),
         path("line", line_of(label, wakes, bins, frame.tick)),
         "</g>",
-        f'<g transform="matrix({frame.wake:.6g} 0 0 1 {frame.x(0):.6g} {number(frame.bottom + 3)})">',
-        path("silent", silence_of(label, wakes, bins)),
+        f'<g transform="matrix({frame.wake:.6g} 0 0 1 {frame.x(0):.6g} {number(frame.bottom + LANE - 3)})">',
+        _silence(label, wakes, frame),
         "</g>", "</svg>",
     ])

@@ -10,6 +10,7 @@ from array import array
 from typing import Iterator, NamedTuple
 
 from circle_median import SILENT
+from common import no_tick
 from drawing import count
 
 
@@ -94,11 +95,6 @@ def _shown(cell: str) -> str:
     """A cell in an error: cut where it is long."""
     word = cell.strip(" \t")
     return word if len(word) <= 24 else f"{word[:20]}.."
-
-
-def no_tick(cell: object, cycle: int) -> str:
-    """What is wrong with a number that is no tick."""
-    return f"{cell} is no tick of a cycle of {cycle}"
 
 
 def _row(line: int, cells: list[str], cycle: int) -> Iterator[int]:

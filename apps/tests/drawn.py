@@ -5,7 +5,7 @@ import re
 import xml.etree.ElementTree as xml
 from typing import NamedTuple, Optional
 
-HTML = "{http://www.w3.org/1999/xhtml}"
+HTML, SVG = "{http://www.w3.org/1999/xhtml}", "{http://www.w3.org/2000/svg}"
 
 
 class Strip(NamedTuple):
@@ -15,6 +15,12 @@ class Strip(NamedTuple):
     near: list[tuple[int, int]]
     thrown: list[tuple[int, int]]
     silent: list[tuple[float, float]]
+
+
+def filled(run: list[tuple[int, int]]) -> list[tuple[int, int]]:
+    """A run with the wakes between two points of the same height, through which the line goes too."""
+    between = [(wake, at) for (first, at), (last, other) in zip(run, run[1:]) if at == other for wake in range(first + 1, last)]
+    return sorted(run + between)
 
 
 class Hands(NamedTuple):
@@ -35,8 +41,8 @@ class Page:
 
     def by(self, tag: str, kind: str, within=None) -> list:
         """The parts of a tag and a class."""
-        parts = (self.tree if within is None else within).iter(HTML + tag)
-        return [part for part in parts if kind in part.get("class", "").split()]
+        within = self.tree if within is None else within
+        return [part for space in (HTML, SVG) for part in within.iter(space + tag) if kind in part.get("class", "").split()]
 
     @staticmethod
     def words(part) -> str:

@@ -85,9 +85,9 @@ class Browser(unittest.TestCase):
         frame, paper = strip.frame_of(bench, label), styled(0)["paper"]
         for wake, at in enumerate(label.placed):
             if at is None:
-                self.near(shot, frame.x(wake), frame.bottom + 3, "silent", wake)
+                self.near(shot, frame.x(wake), frame.bottom + strip.LANE - 3, "silent", wake)
             else:
-                self.assertEqual(shot.pixel(round(frame.x(wake)), round(frame.bottom + 3)), paper)
+                self.assertEqual(shot.pixel(round(frame.x(wake)), round(frame.bottom + strip.LANE - 3)), paper)
         gap = label.unrolled.index(None)
         column = {shot.pixel(round(frame.x(gap)), y) for y in range(round(frame.bottom))}
         self.assertNotIn(styled(0)["line"], column)
