@@ -11,6 +11,7 @@ import shutil
 import subprocess
 import tempfile
 import unittest
+import zlib
 
 from places import APPS, EXAMPLES
 
@@ -32,22 +33,33 @@ def styled(scheme: int) -> dict[str, tuple[int, int, int]]:
     return {name: tuple(bytes.fromhex(value)) for name, value in re.findall(r"--(\w+): #(\w{6});", block)}
 
 
+def inflated(part: bytes) -> bytes:
+    """A stream of a PDF, if it is a compressed one."""
+    try:
+        return zlib.decompress(part)
+    except zlib.error:
+        return b""
+
+
 @unittest.skipUnless(BROWSER, "no Chromium is installed")
 class Browser(unittest.TestCase):
     """Pages as Chromium draws them."""
 
-    def drawn(self, text: str, width: int, height: int, *flags: str) -> Picture:
+    def made(self, text: str, product: str, *flags: str) -> bytes:
+        """What the browser makes of a page."""
         with tempfile.TemporaryDirectory() as folder:
-            source, shot = os.path.join(folder, "page.html"), os.path.join(folder, "page.png")
+            source, made = (os.path.join(folder, f"page.{end}") for end in ("html", "pdf" if "pdf" in product else "png"))
             with open(source, "w", encoding="utf-8") as file:
                 file.write(text)
             subprocess.run(
-                [BROWSER, *FLAGS, *flags, f"--user-data-dir={folder}/profile", f"--window-size={width},{height}", f"--screenshot={shot}",
-                 f"file://{source}"],
+                [BROWSER, *FLAGS, *flags, f"--user-data-dir={folder}/profile", f"--{product}={made}", f"file://{source}"],
                 check=True, capture_output=True, timeout=120,
             )
-            with open(shot, "rb") as file:
-                return Picture(file.read())
+            with open(made, "rb") as file:
+                return file.read()
+
+    def drawn(self, text: str, width: int, height: int, *flags: str) -> Picture:
+        return Picture(self.made(text, "screenshot", *flags, f"--window-size={width},{height}"))
 
     def bench(self, name: str, slot=None) -> Bench:
         with open(os.path.join(EXAMPLES, f"{name}.record"), "rb") as file:
@@ -63,10 +75,21 @@ class Browser(unittest.TestCase):
             ("shelf", light, ("line", "near", "thrown", "zero", "ahead", "back")), ("shelf", dark, ("line", "near", "thrown", "ahead", "back")),
             ("silent", light, ("line", "thrown", "silent")), ("paper", dark, ("line", "thrown", "back")), ("pilot", light, ("line", "thrown")),
         ):
-            shot, due = self.drawn(page(self.bench(name, (1, 2)), name), 1120, 900, *flags), styled(scheme)
+            shot, due = self.drawn(page(self.bench(name, (1, 2)), name), 1200, 900, *flags), styled(scheme)
             self.assertEqual(shot.pixel(3, 3), due["paper"], (name, scheme))
             missing = {due[each] for each in (*seen, "ink")} - shot.colours()
             self.assertEqual(missing, set(), (name, scheme))
+
+    def test_print(self):
+        """Each thrown reading is printed, and the one of the legend."""
+        bench = self.bench("shelf")
+        pdf = self.made(page(bench, "shelf"), "print-to-pdf")
+        streams = b"".join(inflated(part) for part in re.findall(rb"stream\r?\n(.*?)endstream", pdf, re.S))
+        red, green, blue = (each / 255 for each in styled(2)["thrown"])
+        self.assertEqual(blue, 0)
+        begun = rb"%s\d* %s\d* 0 RG(.*?)\nS\n" % tuple(f"{each:.3f}"[1:4].encode().replace(b".", rb"\.") for each in (red, green))
+        dots = sum(len(re.findall(rb" l\b", part)) for part in re.findall(begun, streams, re.S))
+        self.assertEqual(dots, 1 + sum(len(bench.label(index).thrown) for index in range(bench.labels)))
 
     def test_where_it_is_drawn(self):
         """A strip alone, in its own units: the line and the readings are at their wakes and ticks, and silence below them."""
