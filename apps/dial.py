@@ -76,7 +76,7 @@ def drawn_of(labels: list[Label]) -> list[Label]:
     """The labels that the dial has, of those of which something was heard: all, or the ones that drift most."""
     heard = [label for label in labels if label.first is not None]
     most = sorted(heard, key=lambda label: -abs(label.drift))[:MOST]
-    return sorted(most, key=lambda label: label.index)
+    return sorted(most, key=lambda label: label.number)
 
 
 def _turns(cycle: int, label: Label) -> float:
@@ -126,7 +126,7 @@ class Words(NamedTuple):
 def _number(cycle: int, ring: Ring) -> Words:
     """A label's number beyond its last hand, with the turns of a drift that the arc has not all of."""
     turns = int(ring.label.drift / cycle)
-    words = f"{ring.label.index}: {turns:+d} turns" if abs(ring.label.drift) > MOST_TURNS * cycle else str(ring.label.index)
+    words = f"{ring.label.number}: {turns:+d} turns" if abs(ring.label.drift) > MOST_TURNS * cycle else str(ring.label.number)
     return Words(*_at(ring.label.last / cycle, ring.end + 9), words)
 
 

@@ -38,7 +38,7 @@ class Label(NamedTuple):
     phase is silent. `placed` has the readings beside it: the unrolled phase and the step from the filtered phase to the reading.
     """
 
-    index: int
+    number: int
     unrolled: list[Optional[int]]
     placed: list[Optional[int]]
     first: Optional[int]
@@ -52,7 +52,7 @@ class Label(NamedTuple):
 
 def words_of(label: Label) -> str:
     """A label's figures in words."""
-    return f"label {label.index}: first {spelled(label.first)}, last {spelled(label.last)}, drift {label.drift}"
+    return f"label {label.number}: first {spelled(label.first)}, last {spelled(label.last)}, drift {label.drift}"
 
 
 def _kept(call: Callable[..., int], *before: int) -> Callable[[int, int], int]:
@@ -77,16 +77,16 @@ class Bench:
         self.limits = self.limits._replace(slot=(start, width))
         self._is_inside = lru_cache(KEPT)(lambda phase: circle_median.slot(self.cycle, phase, start, width))
 
-    def label(self, index: int) -> Label:
+    def label(self, number: int) -> Label:
         """The figures of a row."""
-        row = slice(index * self.wakes, (index + 1) * self.wakes)
+        row = slice(number * self.wakes, (number + 1) * self.wakes)
         raw, filtered = self.record.readings[row], self.filtered[row]
         heard = [phase for phase in filtered if phase != SILENT]
         unrolled = self._unrolled(filtered, heard)
         placed = self._placed(raw, filtered, unrolled)
         drift = circle_median.drift(self.cycle, filtered)
         return Label(
-            index, unrolled, placed, *((heard[0], heard[-1]) if heard else (None, None)), drift, abs(drift) > self.limits.drift,
+            number, unrolled, placed, *((heard[0], heard[-1]) if heard else (None, None)), drift, abs(drift) > self.limits.drift,
             set(self._thrown(unrolled, placed)), raw.count(SILENT), list(self._outside(filtered)),
         )
 

@@ -74,9 +74,9 @@ def _row(bench: Bench, label: Label) -> str:
     cells = [spelled(label.first), spelled(label.last), label.drift, len(label.thrown), label.silent]
     if bench.limits.slot:
         cells += [len(label.outside), *((label.outside[0], label.outside[-1]) if label.outside else "--")]
-    link = f'<th scope="row"><a href="#label-{label.index}">{label.index}</a></th>'
+    link = f'<th scope="row"><a href="#label-{label.number}">{label.number}</a></th>'
     told = "".join(f"<td>{cell}</td>" for cell in cells)
-    return f'<tr class="{way_of(label)}" id="row-{label.index}">{link}{told}<td class="mark">{_marks(label)}</td></tr>'
+    return f'<tr class="{way_of(label)}" id="row-{label.number}">{link}{told}<td class="mark">{_marks(label)}</td></tr>'
 
 
 def _table(bench: Bench, labels: list[Label]) -> Iterator[str]:
@@ -116,8 +116,8 @@ def _section(bench: Bench, label: Label) -> str:
     figures = "never heard" if label.first is None else f"{label.first} to {label.last}, drift {label.drift}"
     turns = f", {abs(label.drift) / bench.cycle:.1f} turns" if abs(label.drift) >= bench.cycle else ""
     return joined([
-        f'<section class="label" id="label-{label.index}">',
-        f'<h3><a href="#row-{label.index}">label {label.index}</a> <span class="figures">{figures}{turns}</span> {_marks(label)}</h3>',
+        f'<section class="label" id="label-{label.number}">',
+        f'<h3><a href="#row-{label.number}">label {label.number}</a> <span class="figures">{figures}{turns}</span> {_marks(label)}</h3>',
         f'<div class="wide">{strip(bench, label)}</div>', "</section>",
     ])
 

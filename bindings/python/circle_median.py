@@ -316,7 +316,7 @@ def distance(cycle: int, a: int, b: int) -> int:
     Traceback (most recent call last):
     circle_median.Refused: refused 9 at 1: a reading is neither below the cycle nor silent, or an argument is not below the cycle
     """
-    return _answered(_library().circle_median_distance(_number(cycle), _tick(a), _tick(b))).value
+    return int(_answered(_library().circle_median_distance(_number(cycle), _tick(a), _tick(b))).value)
 
 
 def step(cycle: int, a: int, b: int) -> int:
@@ -325,7 +325,7 @@ def step(cycle: int, a: int, b: int) -> int:
     >>> step(360, 359, 1), step(360, 1, 359), step(8, 1, 5)
     (2, -2, -4)
     """
-    return _answered(_library().circle_median_step(_number(cycle), _tick(a), _tick(b))).value
+    return int(_answered(_library().circle_median_step(_number(cycle), _tick(a), _tick(b))).value)
 
 
 def slot(cycle: int, p: int, s: int, w: int) -> bool:
@@ -343,7 +343,7 @@ def drift(cycle: int, row: Buffer) -> int:
     >>> drift(8, array("H", [1, 1, 7, 7, SILENT, 3, 3]))
     -6
     """
-    return _answered(_drift(_number(cycle), _view("row", row, c_uint16))).value
+    return int(_answered(_drift(_number(cycle), _view("row", row, c_uint16))).value)
 
 
 def _drift(cycle: int, view: memoryview) -> Any:
@@ -367,16 +367,17 @@ def _pair(name: str, pair: Tuple[int, int]) -> Tuple[int, int]:
 
 def _size(view: memoryview, size: Optional[Tuple[int, int]]) -> Tuple[int, int]:
     """The rows and columns of an image: those of its two dimensions, those that are told, or one row."""
-    if view.ndim == 2:
-        own = _pair("readings", view.shape)
-        if size is not None and _pair("size", size) != own:
-            raise ValueError(f"size: the readings are {own[0]} by {own[1]}, and not {size[0]} by {size[1]}")
-        return own
+    own = view.shape or ()
+    if len(own) == 2:
+        rows, columns = own
+        if size is not None and _pair("size", size) != (rows, columns):
+            raise ValueError(f"size: the readings are {rows} by {columns}, and not {size[0]} by {size[1]}")
+        return _number(rows), _number(columns)
     if size is not None:
         return _pair("size", size)
-    if view.ndim > 2:
-        raise TypeError(f"readings: they have {view.ndim} dimensions; tell the size, (rows, columns)")
-    return _pair("readings", (1, view.shape[0]))
+    if len(own) > 2:
+        raise TypeError(f"readings: they have {len(own)} dimensions; tell the size, (rows, columns)")
+    return 1, _number(own[0])
 
 
 def _shape(view: memoryview, cycle: int, mask: Tuple[int, int], size: Optional[Tuple[int, int]]) -> Tuple[int, ...]:
@@ -403,11 +404,11 @@ def _filtered(engine: Engine, shape: Tuple[int, ...], ends: Tuple[int, int], ima
     """The answer of an engine. Work memory is made once all that is tested before it has passed."""
     call = getattr(_library(), f"circle_median_{engine.value}")
     lent = (*shape, *ends, image, len(image), output, len(output))
-    answer = call(*lent, (c_uint32 * 1)(), 0)
-    if answer.number != _SHORT_WORK:
-        return answer
-    work = _work(engine, shape)
-    return call(*lent, work, len(work))
+    answer: _Answer = call(*lent, (c_uint32 * 1)(), 0)
+    if answer.number == _SHORT_WORK:
+        work = _work(engine, shape)
+        answer = call(*lent, work, len(work))
+    return answer
 
 
 def _is_level_faster(shape: Tuple[int, ...]) -> bool:
@@ -480,9 +481,9 @@ def _filter(
 
 def _output(output: Buffer, columns: int) -> Any:
     """What an engine writes: any numbers, or an image's as wide as the readings'."""
-    view = _view("output", output, c_uint16)
-    if view.ndim == 2 and view.shape[1] != columns:
-        raise TypeError(f"output: it has {view.shape[1]} columns, and the readings {columns}")
+    own = _view("output", output, c_uint16).shape or ()
+    if len(own) == 2 and own[1] != columns:
+        raise TypeError(f"output: it has {own[1]} columns, and the readings {columns}")
     return _writable("output", output, c_uint16)
 
 
@@ -537,7 +538,7 @@ def _read_into(data: Buffer, output: Buffer) -> Record:
     return Record(memoryview(output).cast("B").cast("H")[:size[0] * size[1]], answer.cycle, mask, size)
 
 
-def _read(data: Buffer, output: Buffer) -> _RecordAnswer:
+def _read(data: Buffer, output: Buffer) -> Any:
     lent, written = _read_only("data", data, c_uint8), _writable("output", output, c_uint16)
     _apart(written, lent)
     return _library().circle_median_read(lent, len(lent), written, len(written))
@@ -627,17 +628,17 @@ class LiveWindow:
     @property
     def cycle(self) -> int:
         """Ticks of the cycle: the paper's C."""
-        return self._window.cycle
+        return int(self._window.cycle)
 
     @property
     def length(self) -> int:
         """How many of the last readings count: the paper's T."""
-        return self._window.length
+        return int(self._window.length)
 
     @property
     def filled(self) -> int:
         """How many of the last `length` readings are there."""
-        return self._window.filled
+        return int(self._window.filled)
 
     def __copy__(self) -> LiveWindow:
         """A window of its own, with the same readings."""
