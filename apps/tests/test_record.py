@@ -10,7 +10,6 @@ import signal
 import subprocess
 import sys
 import tempfile
-import time
 import unittest
 
 from places import APPS, ENVIRONMENT, EXAMPLES, SHEET
@@ -179,7 +178,7 @@ class Program(unittest.TestCase):
             self.assertEqual(self.run_it(*arguments, data=data), (status, b"", f"record: {due}\n"))
 
     def test_what_stops_it(self):
-        """No library, closed input or output, and an interrupt are told in one line, which never goes into the product."""
+        """No library, closed input or output and too little memory are told in one line, which never goes into the product."""
         program, paper = os.path.join(APPS, "record.py"), os.path.join(EXAMPLES, "paper.record")
         for command, status, due in (
             (f"CIRCLE_MEDIAN_LIB={APPS} {sys.executable} {program} show {paper}", 1, "record: circle_median has no library: .*"),
@@ -191,10 +190,19 @@ class Program(unittest.TestCase):
             run = subprocess.run(["sh", "-c", command], capture_output=True, text=True, env=ENVIRONMENT)
             self.assertEqual((run.returncode, run.stdout), (status, ""), command)
             self.assertRegex(run.stderr, rf"\A{due}\n?\Z", command)
-        run = subprocess.Popen([sys.executable, program, "show"], stdin=subprocess.PIPE, stderr=subprocess.PIPE, env=ENVIRONMENT)
-        time.sleep(1)
-        run.send_signal(signal.SIGINT)
-        self.assertEqual((run.communicate()[1], run.returncode), (b"record: interrupted\n", 130))
+
+    def test_interrupt(self):
+        """An interrupt while it reads. The tests may run where interrupts are ignored, as behind a shell's &."""
+        with tempfile.TemporaryDirectory() as folder:
+            pipe = os.path.join(folder, "pipe")
+            os.mkfifo(pipe)
+            run = subprocess.Popen(
+                [sys.executable, os.path.join(APPS, "record.py"), "show", pipe], stderr=subprocess.PIPE, env=ENVIRONMENT,
+                preexec_fn=lambda: signal.signal(signal.SIGINT, signal.SIG_DFL),
+            )
+            with open(pipe, "wb"):
+                run.send_signal(signal.SIGINT)
+                self.assertEqual((run.communicate()[1], run.returncode), (b"record: interrupted\n", 130))
 
     def test_nothing_is_lost(self):
         """A file that may not grow is told, also where Python's own output has no buffer."""
