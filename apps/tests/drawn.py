@@ -9,12 +9,15 @@ HTML, SVG = "{http://www.w3.org/1999/xhtml}", "{http://www.w3.org/2000/svg}"
 
 
 class Strip(NamedTuple):
-    """A strip: its line in runs of (wake, tick), its readings, and which wakes are marked as silent."""
+    """A strip: its line in runs of (wake, tick), its readings, which wakes are marked as silent, the bars of silence where wakes
+    are too narrow, and between which ticks the slot lies."""
 
     line: list[list[tuple[int, int]]]
     near: list[tuple[int, int]]
     thrown: list[tuple[int, int]]
     silent: list[tuple[float, float]]
+    bars: list[tuple[float, float]]
+    slots: list[tuple[float, float]]
 
 
 def filled(run: list[tuple[int, int]]) -> list[tuple[int, int]]:
@@ -69,8 +72,12 @@ class Page:
         def points(path: str) -> list[tuple[int, int]]:
             return [(int(x), int(y)) for x, y in re.findall(r"[ML](-?\d+) (-?\d+)", path)]
 
-        silent = [(float(x), float(end)) for x, end in re.findall(r"M(-?[\d.]+) 0H([\d.]+)", d("silent"))]
-        return Strip([points("M" + run) for run in d("line").split("M")[1:]], points(d("near")), points(d("thrown")), silent)
+        silent, bars = (
+            [(float(x), float(end)) for x, end in re.findall(rf"M(-?[\d.]+) 0{way}(-?[\d.]+)", d("silent"))] for way in "Hv"
+        )
+        slots = [(float(rect.get("y")), float(rect.get("y")) + float(rect.get("height"))) for rect in self.by("rect", "slot", section)]
+        line = [points("M" + run) for run in d("line").split("M")[1:]]
+        return Strip(line, points(d("near")), points(d("thrown")), silent, bars, slots)
 
     def dial(self) -> list[Hands]:
         """The labels on the dial."""

@@ -88,8 +88,10 @@ class Browser(unittest.TestCase):
         red, green, blue = (each / 255 for each in styled(2)["thrown"])
         self.assertEqual(blue, 0)
         begun = rb"%s\d* %s\d* 0 RG(.*?)\nS\n" % tuple(f"{each:.3f}"[1:4].encode().replace(b".", rb"\.") for each in (red, green))
-        dots = sum(len(re.findall(rb" l\b", part)) for part in re.findall(begun, streams, re.S))
-        self.assertEqual(dots, 1 + sum(len(bench.label(index).thrown) for index in range(bench.labels)))
+        dots = [dot for part in re.findall(begun, streams, re.S) for dot in re.findall(rb"(\S+ \S+) m\n(\S+ \S+) l\b", part)]
+        self.assertEqual(len(dots), 1 + sum(len(bench.label(index).thrown) for index in range(bench.labels)))
+        for begin, end in dots:
+            self.assertNotEqual(begin, end, "a dot of no length is not printed")
 
     def test_where_it_is_drawn(self):
         """A strip alone, in its own units: the line and the readings are at their wakes and ticks, and silence below them."""

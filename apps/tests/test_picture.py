@@ -66,6 +66,7 @@ class Figures(unittest.TestCase):
             raw, phases = record.readings[i * n:(i + 1) * n].tolist(), filtered[i * n:(i + 1) * n].tolist()
             self.check_row(rows[i], i, c, raw, phases, limits)
             self.check_strip(strips[i], c, raw, phases, limits)
+            self.check_slots(strips[i], c, limits)
             self.check_dial(dial.get(f"label {i}"), i, c, phases, limits)
 
     def check_row(self, row, i, c, raw, phases, limits):
@@ -109,6 +110,17 @@ class Figures(unittest.TestCase):
         ends = [wake for wake in quiet if wake + 1 not in quiet]
         self.assertEqual(drawn.silent, [(begin - 0.5, end + 0.5) for begin, end in zip((x for x in quiet if x - 1 not in quiet), ends)])
 
+    def check_slots(self, drawn, c, limits):
+        """The line is on the slot's shade where the phase is in the slot, and beside it only as near as the shade is widened."""
+        for _, at in (point for run in drawn.line for point in run):
+            is_shaded = any(low <= at <= high for low, high in drawn.slots)
+            if limits.slot is None or not is_shaded:
+                self.assertFalse(limits.slot and cm.slot(c, at % c, *limits.slot) or is_shaded)
+            elif not cm.slot(c, at % c, *limits.slot):
+                start, width = limits.slot
+                nearest = min(cm.distance(c, at % c, end) for end in (start, (start + width) % c))
+                self.assertLess(nearest, c / strip.CYCLE_HEIGHT)
+
     def check_dial(self, hands, i, c, phases, limits):
         heard = ref.heard(phases)
         if not heard:
@@ -149,9 +161,24 @@ class Thinned(unittest.TestCase):
             self.assertTrue(all(label.unrolled[wake] == at for wake, at in line.items()))
             self.assertTrue(all(label.placed[wake] == at for wake, at in said.near + said.thrown))
             self.assertLessEqual({wake for wake, _ in said.thrown}, label.thrown)
+            self.check_silence(bench, label, said)
             self.check_outline(bench, label, dict(point for run in said.line for point in filled(run)), bins)
             points += len(line) + len(said.near) + len(said.thrown)
         return points
+
+    def check_silence(self, bench, label, said):
+        """Where wakes are too narrow there are bars, each as high as the share of its wakes that is silent, but for the lowest."""
+        if not said.bars:
+            self.assertEqual(sum(end - begin for begin, end in said.silent), label.silent)
+            return
+        bars = int((strip.WIDTH - strip.LEFT - strip.RIGHT) / strip.NARROWEST / 1.25)
+        ends = [bar * bench.wakes // bars for bar in range(bars + 1)]
+        shares = ((a + b - 1, label.placed[a:b].count(None) / (b - a)) for a, b in zip(ends, ends[1:]))
+        due = [(middle / 2, max(1, strip.BAR * share)) for middle, share in shares if share]
+        self.assertEqual(len(said.bars), len(due))
+        for (x, height), (middle, high) in zip(said.bars, due):
+            self.assertAlmostEqual(x, middle, places=1)
+            self.assertAlmostEqual(-height, high, places=1)
 
     def check_outline(self, bench, label, line, bins):
         """In each bin the line goes as low and as high as the phases do, to half of the strip's unit."""
@@ -214,8 +241,9 @@ class Text(unittest.TestCase):
     def test_axes(self):
         """Marks of both axes are ticks of the cycle and wakes, none on another, with their units."""
         for cycle, wakes in ((1, 1), (7, 2), (8, 5), (9, 40), (97, 300), (360, 960), (4096, 8192), (65535, 8192)):
-            image = array("H", (k * 7 % cycle for k in range(wakes)))
-            drawn = Page(page(Bench(cm.write_record(image, cycle, (1, 1))), "x"))
+            image = array("H", (k * 97 % cycle for k in range(wakes)))
+            bench = Bench(cm.write_record(image, cycle, (1, 1)))
+            drawn, frame = Page(page(bench, "x")), strip.frame_of(bench, bench.label(0))
             (section,) = drawn.by("section", "label")
             marks = [(part, drawn.words(part)) for part in drawn.by("text", "mark", section)]
             self.assertEqual({words for part, words in marks if "unit" in part.get("class")}, {"tick", "silent", "wake"})
@@ -227,8 +255,58 @@ class Text(unittest.TestCase):
                 self.assertTrue(some)
                 self.assertTrue(all(ends[axis][0] <= place <= ends[axis][1] for place, _ in some))
                 self.assertTrue(all(0 <= n < (cycle if axis == "y" else wakes) for _, n in some))
+                for part, words in marks:
+                    turn, is_turn, tick = words.partition(": ")
+                    if is_turn:
+                        at = int(turn.replace("turn ", "")) * cycle + int(tick)
+                        self.assertAlmostEqual(float(part.get("y")), frame.y(at) + 3.5, places=1)
+                    elif part.get("class") == "mark right":
+                        at = frame.high - (float(part.get("y")) - 3.5 - strip.TOP) / frame.tick
+                        self.assertAlmostEqual((at - int(words) + cycle / 2) % cycle, cycle / 2, delta=0.01 / frame.tick)
+                    elif part.get("class") == "mark middle":
+                        self.assertAlmostEqual(float(part.get("x")), frame.x(int(words)), places=1)
                 places = sorted(place for place, _ in some)
                 self.assertTrue(all(b - a >= apart for a, b in zip(places, places[1:])), (cycle, wakes, places))
+
+    def test_one_scale(self):
+        """A quiet label and one that drifts by two turns are drawn to one scale, and each strip has marks."""
+        rows = [[5] * 200, [k * 7 // 2 % 360 for k in range(200)], [k % 2 * 3 for k in range(200)]]
+        image = array("H", (x for row in rows for x in row))
+        drawn = Page(page(Bench(cm.write_record(image, 360, (1, 1), (3, 200))), "x"))
+        for section in drawn.by("section", "label"):
+            svg = drawn.by("svg", "strip", section)[0]
+            scales = {float(part.get("transform").split()[3]) for part in svg if "matrix" in part.get("transform", "")}
+            self.assertEqual(scales - {1.0}, {-0.333333})
+            self.assertTrue([part for part in drawn.by("text", "right", section) if drawn.words(part).isdigit()])
+
+    def test_slot_on_the_dial(self):
+        for start, width in ((350, 20), (0, 0), (10, 200), (359, 358)):
+            bench = Bench(self.example("shelf"))
+            bench.listen(start, width)
+            (sector,) = [part for part in Page(page(bench, "x")).by("path", "slot") if part.get("d").startswith("M0 0L")]
+            begin, large, end = re.fullmatch(r"M0 0L(\S+ \S+)A180 180 0 ([01]) 1 (\S+ \S+)Z", sector.get("d")).groups()
+            for point, tick in ((begin, start - 0.5), (end, start + width + 0.5)):
+                x, y = map(float, point.split())
+                self.assertAlmostEqual((math.atan2(x, -y) * 360 / math.tau - tick + 180) % 360 - 180, 0, places=1)
+            self.assertEqual(large, str(int(width + 1 > 180)))
+
+    def test_numbers_on_the_dial(self):
+        """The numbers of labels at one phase, and those with turns, do not lie on each other; the ones that drift come first."""
+        rows = [[100] * 20 + [100 + k // 20] * 20 for k in range(30)] + [[k * 90 % 360 for k in range(40)]]
+        image = array("H", (x for row in rows for x in row))
+        drawn = Page(page(Bench(cm.write_record(image, 360, (1, 1), (31, 40)), drift=0), "x"))
+        boxes = [(float(part.get("x")), float(part.get("y")), drawn.words(part)) for part in drawn.by("text", "number")]
+        self.assertTrue(1 < len(boxes) < 31)
+        self.assertIn("30: +9 turns", {words for _, _, words in boxes})
+        self.assertIn("20", {words for _, _, words in boxes})
+        for k, (x, y, words) in enumerate(boxes):
+            for other_x, other_y, other in boxes[k + 1:]:
+                self.assertTrue(abs(y - other_y) >= 11 or abs(x - other_x) >= 3 * len(words + other), (words, other))
+
+    def test_how_many_drift(self):
+        drawn = Page(page(Bench(self.example("shelf")), "x"))
+        self.assertEqual(drawn.words(next(drawn.tree.iter("{http://www.w3.org/1999/xhtml}caption"))),
+                         "phases and drift in ticks; 6 of 8 labels drifting")
 
     def test_refused_page(self):
         drawn = Page(refused_page(cm.Refused(12, 7), "bad"))
