@@ -18,9 +18,11 @@ from places import APPS, ENVIRONMENT, EXAMPLES
 import circle_median as cm
 import reference as ref
 import strip
+from drawing import marks, nice
 from drawn import Page, filled
 from figures import Bench, usual_limit
 from page import page, refused_page
+from picture import title_of
 
 SILENT = cm.SILENT
 
@@ -267,6 +269,18 @@ class Text(unittest.TestCase):
                         self.assertAlmostEqual(float(part.get("x")), frame.x(int(words)), places=1)
                 places = sorted(place for place, _ in some)
                 self.assertTrue(all(b - a >= apart for a, b in zip(places, places[1:])), (cycle, wakes, places))
+
+    def test_marks(self):
+        """As many as divide the cycle into numbers of up to four digits, else round ones, not on the next turn's zero."""
+        for cycle, least, due in ((360, 66, [0, 90, 180, 270]), (8, 1.4, [0, 2, 4, 6]), (7, 1.3, [0, 2, 4]), (1, 1, [0]), (360, 400, [0]),
+                                  (4096, 750, [0, 1024, 2048, 3072]), (65535, 12015, [0, 20000, 40000]), (65521, 12013, [0, 20000, 40000])):
+            self.assertEqual(list(marks(cycle, (4, 5, 3, 6, 2), least)), due)
+        self.assertEqual([nice(x) for x in (0.2, 1, 1.1, 2, 3, 7, 10, 11, 21, 99, 101)], [1, 1, 2, 2, 5, 10, 10, 20, 50, 100, 200])
+
+    def test_titles(self):
+        """What XML or UTF-8 cannot hold is no part of a title."""
+        self.assertEqual(title_of("a\x01b\udcffc \u00e9"), "a\ufffdb\ufffdc \u00e9")
+        Page(page(Bench(self.example("paper")), title_of("\0\x1f\udc80")))
 
     def test_one_scale(self):
         """A quiet label and one that drifts by two turns are drawn to one scale, and each strip has marks."""
