@@ -43,9 +43,9 @@ def marks(cycle: int, parts: tuple[int, ...], least: float = 1) -> range:
     return range(0, max(1, cycle - spacing // 2), spacing)
 
 
-def spelled(phase: Optional[int]) -> str:
-    """A phase in words, a silent one as on the sheet."""
-    return "-" if phase is None else str(phase)
+def spelled(x: Optional[int]) -> str:
+    """A phase or a wake, and where there is none what the sheet has for a silent phase."""
+    return "-" if x is None else str(x)
 
 
 def count(n: int, one: str) -> str:

@@ -7,7 +7,7 @@ from __future__ import annotations
 from array import array
 from functools import lru_cache
 from itertools import accumulate
-from typing import Callable, Iterator, NamedTuple, Optional
+from typing import Callable, NamedTuple, Optional
 
 import circle_median
 from circle_median import SILENT
@@ -31,28 +31,42 @@ def usual_limit(cycle: int) -> int:
     return -(-cycle // 36)
 
 
-class Label(NamedTuple):
-    """A row of the record, wake by wake, and what the page tells of it.
+class Trace(NamedTuple):
+    """A row of the record, wake by wake, as it is drawn.
 
     `unrolled` has the filtered phases with the steps from each to the next added up, so that it goes on over zero; None where the
     phase is silent. `placed` has the readings beside it: the unrolled phase and the step from the filtered phase to the reading.
+    `thrown` has the wakes that are marked.
     """
 
-    number: int
     unrolled: list[Optional[int]]
     placed: list[Optional[int]]
+    thrown: set[int]
+
+
+class Label(NamedTuple):
+    """What the page tells of a row: `thrown`, `silent` and `outside` count its wakes."""
+
+    number: int
     first: Optional[int]
     last: Optional[int]
     drift: int
     drifts: bool
-    thrown: set[int]
+    thrown: int
     silent: int
-    outside: list[int]
+    outside: int
+    first_outside: Optional[int]
+    last_outside: Optional[int]
 
 
 def words_of(label: Label) -> str:
     """A label's figures in words."""
     return f"label {label.number}: first {spelled(label.first)}, last {spelled(label.last)}, drift {label.drift}"
+
+
+def _ends(some: list[int]) -> tuple[Optional[int], Optional[int]]:
+    """The first and the last, if there are any."""
+    return (some[0], some[-1]) if some else (None, None)
 
 
 def _kept(call: Callable[..., int], *before: int) -> Callable[[int, int], int]:
@@ -77,18 +91,22 @@ class Bench:
         self.limits = self.limits._replace(slot=(start, width))
         self._is_inside = lru_cache(KEPT)(lambda phase: circle_median.slot(self.cycle, phase, start, width))
 
-    def label(self, number: int) -> Label:
-        """The figures of a row."""
+    def label(self, number: int) -> tuple[Label, Trace]:
+        """The figures of a row and its trace."""
         row = slice(number * self.wakes, (number + 1) * self.wakes)
         raw, filtered = self.record.readings[row], self.filtered[row]
-        heard = [phase for phase in filtered if phase != SILENT]
-        unrolled = self._unrolled(filtered, heard)
-        placed = self._placed(raw, filtered, unrolled)
+        heard, outside = [phase for phase in filtered if phase != SILENT], self._outside(filtered)
+        trace = self._trace(raw, filtered, heard)
         drift = circle_median.drift(self.cycle, filtered)
         return Label(
-            number, unrolled, placed, *((heard[0], heard[-1]) if heard else (None, None)), drift, abs(drift) > self.limits.drift,
-            set(self._thrown(unrolled, placed)), raw.count(SILENT), list(self._outside(filtered)),
-        )
+            number, *_ends(heard), drift, abs(drift) > self.limits.drift, len(trace.thrown), raw.count(SILENT), len(outside),
+            *_ends(outside),
+        ), trace
+
+    def _trace(self, raw: array[int], filtered: array[int], heard: list[int]) -> Trace:
+        unrolled = self._unrolled(filtered, heard)
+        placed = self._placed(raw, filtered, unrolled)
+        return Trace(unrolled, placed, self._thrown(unrolled, placed))
 
     def _unrolled(self, filtered: array[int], heard: list[int]) -> list[Optional[int]]:
         steps = map(self._step, heard, heard[1:])
@@ -100,13 +118,13 @@ class Bench:
         step = self._step
         return [None if x == SILENT else at + step(phase, x) for x, phase, at in zip(raw, filtered, unrolled)]
 
-    def _thrown(self, unrolled: list[Optional[int]], placed: list[Optional[int]]) -> Iterator[int]:
+    def _thrown(self, unrolled: list[Optional[int]], placed: list[Optional[int]]) -> set[int]:
         """The wakes that are far from their filtered phase: the size of a step is the distance of its ends, as is proved."""
         far = self.limits.thrown
-        return (wake for wake, (at, x) in enumerate(zip(unrolled, placed)) if x is not None and abs(x - at) > far)
+        return {wake for wake, (at, x) in enumerate(zip(unrolled, placed)) if x is not None and abs(x - at) > far}
 
-    def _outside(self, filtered: array[int]) -> Iterator[int]:
+    def _outside(self, filtered: array[int]) -> list[int]:
         """The wakes whose filtered phase is not in the slot."""
         if self.limits.slot is None:
-            return iter(())
-        return (wake for wake, phase in enumerate(filtered) if phase != SILENT and not self._is_inside(phase))
+            return []
+        return [wake for wake, phase in enumerate(filtered) if phase != SILENT and not self._is_inside(phase)]

@@ -11,7 +11,7 @@ from typing import Iterable, Iterator
 from circle_median import Refused
 from dial import dial, drawn_of, way_of
 from drawing import count, joined, spelled, svg
-from figures import Bench, Label
+from figures import Bench, Label, Trace
 from strip import bins_of, strip
 
 # Above how many labels the table scrolls.
@@ -71,9 +71,9 @@ def _marks(label: Label) -> str:
 
 
 def _row(bench: Bench, label: Label) -> str:
-    cells = [spelled(label.first), spelled(label.last), label.drift, len(label.thrown), label.silent]
+    cells = [spelled(label.first), spelled(label.last), label.drift, label.thrown, label.silent]
     if bench.limits.slot:
-        cells += [len(label.outside), *((label.outside[0], label.outside[-1]) if label.outside else "--")]
+        cells += [label.outside, spelled(label.first_outside), spelled(label.last_outside)]
     link = f'<th scope="row"><a href="#label-{label.number}">{label.number}</a></th>'
     told = "".join(f"<td>{cell}</td>" for cell in cells)
     return f'<tr class="{way_of(label)}" id="row-{label.number}">{link}{told}<td class="mark">{_marks(label)}</td></tr>'
@@ -112,21 +112,21 @@ def _left_out(labels: list[Label]) -> Iterator[str]:
     yield "Numbers that would overlap are left out.</p>"
 
 
-def _section(bench: Bench, label: Label) -> str:
+def _section(bench: Bench, label: Label, trace: Trace) -> str:
     figures = "never heard" if label.first is None else f"{label.first} to {label.last}, drift {label.drift}"
     turns = f", {abs(label.drift) / bench.cycle:.1f} turns" if abs(label.drift) >= bench.cycle else ""
     return joined([
         f'<section class="label" id="label-{label.number}">',
         f'<h3><a href="#row-{label.number}">label {label.number}</a> <span class="figures">{figures}{turns}</span> {_marks(label)}</h3>',
-        f'<div class="wide">{strip(bench, label)}</div>', "</section>",
+        f'<div class="wide">{strip(bench, label, trace)}</div>', "</section>",
     ])
 
 
 def _body(bench: Bench, title: str) -> Iterator[str]:
     labels, strips = [], []
-    for label in map(bench.label, range(bench.labels)):
-        strips.append(_section(bench, label))
-        labels.append(label._replace(unrolled=[], placed=[]))
+    for label, trace in map(bench.label, range(bench.labels)):
+        strips.append(_section(bench, label, trace))
+        labels.append(label)
     mask_rows, mask_columns = bench.record.mask
     yield f"<h1>{html.escape(title)}</h1>"
     yield f'<p class="lead">{count(bench.labels, "label")}, {count(bench.wakes, "wake")}, a cycle of {count(bench.cycle, "tick")}, '

@@ -6,17 +6,20 @@ it goes on over zero, so that the line never falls through the whole cycle; the 
 from __future__ import annotations
 
 from itertools import groupby
-from typing import Iterable, Iterator, NamedTuple
+from typing import Callable, Iterable, Iterator, NamedTuple
 
 from drawing import joined, marks, nice, number, path, svg, text
-from figures import Bench, Label, words_of
+from figures import Bench, Label, Trace, words_of
 
 # The strip, in its own units: the drawing's width and margins, what a cycle is high, and the most height.
 WIDTH, LEFT, RIGHT, TOP, BOTTOM = 1000, 60, 12, 18, 44
 CYCLE_HEIGHT, MOST = 120, 360
 
-# Below the axis lies the lane of silent wakes. What is narrower could not be seen; there the lane has bars as high as wakes are silent.
-LANE, BAR, NARROWEST = 14, 9, 1.5
+# What is narrower cannot be seen.
+NARROWEST = 1.5
+
+# Below the axis lies the lane of silent wakes. Where they are too narrow it has bars, so far apart and so high at most.
+LANE, BAR_APART, BAR = 14, 2, 9
 
 # Marks of an axis are so far apart at least.
 APART, APART_WAKES = 22, 70
@@ -57,9 +60,9 @@ class Frame(NamedTuple):
         return f"matrix({self.wake:.6g} 0 0 {-self.tick:.6g} {self.x(0):.6g} {self.y(0):.6g})"
 
 
-def frame_of(bench: Bench, label: Label) -> Frame:
+def frame_of(bench: Bench, trace: Trace) -> Frame:
     """A strip has half a cycle at least. All have the same scale, but for those that would be too high."""
-    drawn = [at for at in (*label.unrolled, *label.placed) if at is not None] or [0]
+    drawn = [at for at in (*trace.unrolled, *trace.placed) if at is not None] or [0]
     wider = max(0.0, bench.cycle / 2 - (max(drawn) + 1 - min(drawn))) / 2
     low, high = min(drawn) - 0.5 - wider, max(drawn) + 0.5 + wider
     height = min(MOST, (high - low) * CYCLE_HEIGHT / bench.cycle)
@@ -70,12 +73,18 @@ def frame_of(bench: Bench, label: Label) -> Frame:
 DOT = "h.01"
 
 
-def _line_wakes(label: Label, wakes: int, bins: int, tick: float) -> Iterator[list[int]]:
+def _bin(bench: Bench) -> Callable[[int], int]:
+    """The bin that a wake is drawn in."""
+    bins, wakes = bins_of(bench), bench.wakes
+    return lambda wake: wake * bins // wakes
+
+
+def _line_wakes(bench: Bench, trace: Trace, tick: float) -> Iterator[list[int]]:
     """The wakes of each bin that the line goes through: the first and last, and where it is lowest and highest if that can be told
     from them."""
-    at = label.unrolled.__getitem__
-    heard = (wake for wake, phase in enumerate(label.unrolled) if phase is not None)
-    for _, some in groupby(heard, lambda wake: wake * bins // wakes):
+    at = trace.unrolled.__getitem__
+    heard = (wake for wake, phase in enumerate(trace.unrolled) if phase is not None)
+    for _, some in groupby(heard, _bin(bench)):
         each = list(some)
         kept = {round(at(wake) * tick): wake for wake in (max(each, key=at), min(each, key=at))}
         for end in (each[0], each[-1]):
@@ -83,11 +92,12 @@ def _line_wakes(label: Label, wakes: int, bins: int, tick: float) -> Iterator[li
         yield sorted({each[0], each[-1], *kept.values()})
 
 
-def _runs(label: Label, wakes: int, bins: int, tick: float) -> Iterator[list[int]]:
+def _runs(bench: Bench, trace: Trace, tick: float) -> Iterator[list[int]]:
     """The wakes that the line goes through without a break. It is broken where a whole bin is silent."""
     run: list[int] = []
-    for some in _line_wakes(label, wakes, bins, tick):
-        if run and some[0] * bins // wakes - run[-1] * bins // wakes > 1:
+    bin_of = _bin(bench)
+    for some in _line_wakes(bench, trace, tick):
+        if run and bin_of(some[0]) - bin_of(run[-1]) > 1:
             yield run
             run = []
         run += some
@@ -95,50 +105,50 @@ def _runs(label: Label, wakes: int, bins: int, tick: float) -> Iterator[list[int
         yield run
 
 
-def line_of(label: Label, wakes: int, bins: int, tick: float) -> str:
+def line_of(bench: Bench, trace: Trace, tick: float) -> str:
     """The line of the filtered phase, without the points between two of the same height."""
-    words, at = [], label.unrolled.__getitem__
-    for run in _runs(label, wakes, bins, tick):
-        bends = (wake for before, wake, after in zip(run, run[1:], run[2:]) if not at(before) == at(wake) == at(after))
-        points = [run[0], *bends, *run[1:][-1:]]
-        words.append("L".join(f"{wake} {at(wake)}" for wake in points) + (DOT if len(points) == 1 else ""))
-    return "M" + "M".join(words) if words else ""
+    words, at = [], trace.unrolled.__getitem__
+    for run in _runs(bench, trace, tick):
+        bends = [wake for before, wake, after in zip(run, run[1:], run[2:]) if not at(before) == at(wake) == at(after)]
+        points = [run[0], *bends, run[-1]] if len(run) > 1 else run
+        words.append("M" + "L".join(f"{wake} {at(wake)}" for wake in points) + (DOT if len(run) == 1 else ""))
+    return "".join(words)
 
 
-def dots_of(label: Label, which: Iterable[int], wakes: int, bins: int, tick: float) -> str:
+def dots_of(bench: Bench, trace: Trace, which: Iterable[int], tick: float) -> str:
     """The readings of some wakes as dots, one for all that would lie on each other."""
-    words, seen = [], set()
+    words, seen, bin_of = [], set(), _bin(bench)
     for wake in which:
-        at = label.placed[wake]
-        spot = wake * bins // wakes, round(at * tick)
+        at = trace.placed[wake]
+        spot = bin_of(wake), round(at * tick)
         if spot not in seen:
             seen.add(spot)
             words.append(f"M{wake} {at}{DOT}")
     return "".join(words)
 
 
-def silence_of(label: Label) -> str:
+def silence_of(trace: Trace) -> str:
     """The wakes that were not heard, as strokes from the first to the last of some that follow each other."""
-    silent = (wake for wake, at in enumerate(label.placed) if at is None)
+    silent = (wake for wake, at in enumerate(trace.placed) if at is None)
     runs = (list(run) for _, run in groupby(enumerate(silent), lambda pair: pair[1] - pair[0]))
     return "".join(f"M{number(run[0][1] - 0.5)} 0H{number(run[-1][1] + 0.5)}" for run in runs)
 
 
-def shares_of(label: Label, wakes: int, bars: int) -> str:
+def shares_of(trace: Trace, bars: int) -> str:
     """How many of the wakes of each bar were not heard, where single ones are too narrow: a bar is the higher the more they are."""
-    words = []
+    words, wakes = [], len(trace.placed)
     for bar in range(bars):
         first, end = bar * wakes // bars, (bar + 1) * wakes // bars
-        silent = label.placed[first:end].count(None)
+        silent = trace.placed[first:end].count(None)
         if silent:
             words.append(f"M{number((first + end - 1) / 2)} 0v{number(-max(1, BAR * silent / (end - first)))}")
     return "".join(words)
 
 
-def _silence(label: Label, wakes: int, frame: Frame) -> str:
+def _silence(trace: Trace, frame: Frame) -> str:
     if frame.wake >= NARROWEST:
-        return path("silent", silence_of(label))
-    return path("silent share", shares_of(label, wakes, int(wakes * frame.wake / NARROWEST / 1.25)))
+        return path("silent", silence_of(trace))
+    return path("silent share", shares_of(trace, (WIDTH - LEFT - RIGHT) // BAR_APART))
 
 
 # The frame.
@@ -189,21 +199,20 @@ def _slots(bench: Bench, frame: Frame) -> Iterator[str]:
             yield f'<rect class="slot" x="-0.5" y="{number(low)}" width="{bench.wakes}" height="{number(high - low)}"/>'
 
 
-def strip(bench: Bench, label: Label) -> str:
+def strip(bench: Bench, label: Label, trace: Trace) -> str:
     """The drawing of a label."""
-    frame, wakes, bins = frame_of(bench, label), bench.wakes, bins_of(bench)
-    heard = [wake for wake, at in enumerate(label.placed) if at is not None]
-    near = (wake for wake in heard if wake not in label.thrown)
+    frame = frame_of(bench, trace)
+    near = (wake for wake, at in enumerate(trace.placed) if at is not None and wake not in trace.thrown)
     return joined([
         svg("strip", f"0 0 {WIDTH} {number(frame.bottom + BOTTOM)}", words_of(label)),
         f'<g transform="{frame.placed}">', *_slots(bench, frame), "</g>",
         *_tick_axis(bench, frame), *_wake_axis(bench, frame),
         f'<g transform="{frame.placed}">',
-        path("near", dots_of(label, near, wakes, bins, frame.tick)),
-        path("thrown", dots_of(label, sorted(label.thrown), wakes, bins, frame.tick)),
-        path("line", line_of(label, wakes, bins, frame.tick)),
+        path("near", dots_of(bench, trace, near, frame.tick)),
+        path("thrown", dots_of(bench, trace, sorted(trace.thrown), frame.tick)),
+        path("line", line_of(bench, trace, frame.tick)),
         "</g>",
         f'<g transform="matrix({frame.wake:.6g} 0 0 1 {frame.x(0):.6g} {number(frame.bottom + LANE - 3)})">',
-        _silence(label, wakes, frame),
+        _silence(trace, frame),
         "</g>", "</svg>",
     ])

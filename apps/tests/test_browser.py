@@ -89,7 +89,7 @@ class Browser(unittest.TestCase):
         self.assertEqual(blue, 0)
         begun = rb"%s\d* %s\d* 0 RG(.*?)\nS\n" % tuple(f"{each:.3f}"[1:4].encode().replace(b".", rb"\.") for each in (red, green))
         dots = [dot for part in re.findall(begun, streams, re.S) for dot in re.findall(rb"(\S+ \S+) m\n(\S+ \S+) l\b", part)]
-        self.assertEqual(len(dots), 1 + sum(len(bench.label(index).thrown) for index in range(bench.labels)))
+        self.assertEqual(len(dots), 1 + sum(bench.label(index)[0].thrown for index in range(bench.labels)))
         for begin, end in dots:
             self.assertNotEqual(begin, end, "a dot of no length is not printed")
 
@@ -97,23 +97,23 @@ class Browser(unittest.TestCase):
         """A strip alone, in its own units: the line and the readings are at their wakes and ticks, and silence below them."""
         bench = self.bench("shelf")
         for index in (0, 6):
-            label = bench.label(index)
-            shot, frame = self.alone(bench, index), strip.frame_of(bench, label)
+            _, trace = bench.label(index)
+            shot, frame = self.alone(bench, index), strip.frame_of(bench, trace)
             for wake in range(5, bench.wakes, 40):
-                self.near(shot, frame.x(wake), frame.y(label.unrolled[wake]), "line", (index, wake))
-            for wake in label.thrown:
-                self.near(shot, frame.x(wake), frame.y(label.placed[wake]), "thrown", (index, wake))
+                self.near(shot, frame.x(wake), frame.y(trace.unrolled[wake]), "line", (index, wake))
+            for wake in trace.thrown:
+                self.near(shot, frame.x(wake), frame.y(trace.placed[wake]), "thrown", (index, wake))
 
     def test_silence(self):
         bench = self.bench("silent")
-        label, shot = bench.label(0), self.alone(bench, 0)
-        frame, paper = strip.frame_of(bench, label), styled(0)["paper"]
-        for wake, at in enumerate(label.placed):
+        (_, trace), shot = bench.label(0), self.alone(bench, 0)
+        frame, paper = strip.frame_of(bench, trace), styled(0)["paper"]
+        for wake, at in enumerate(trace.placed):
             if at is None:
                 self.near(shot, frame.x(wake), frame.bottom + strip.LANE - 3, "silent", wake)
             else:
                 self.assertEqual(shot.pixel(round(frame.x(wake)), round(frame.bottom + strip.LANE - 3)), paper)
-        gap = label.unrolled.index(None)
+        gap = trace.unrolled.index(None)
         column = {shot.pixel(round(frame.x(gap)), y) for y in range(round(frame.bottom))}
         self.assertNotIn(styled(0)["line"], column)
 
@@ -121,7 +121,7 @@ class Browser(unittest.TestCase):
         """The picture of a strip, a pixel to each of its units."""
         with open(os.path.join(APPS, "page.css"), encoding="utf-8") as file:
             style = file.read()
-        body = f"<style>{style} body {{ margin: 0; padding: 0; max-width: none; }}</style>{strip.strip(bench, bench.label(index))}"
+        body = f"<style>{style} body {{ margin: 0; padding: 0; max-width: none; }}</style>{strip.strip(bench, *bench.label(index))}"
         return self.drawn(f"<!DOCTYPE html><html><body>{body}</body></html>", strip.WIDTH, 440)
 
     def near(self, shot: Picture, x: float, y: float, name: str, where: object) -> None:

@@ -157,36 +157,37 @@ class Thinned(unittest.TestCase):
         self.assertIn(f"strips draw the wakes in {bins:,} groups; every figure counts every wake", drawn.facts())
         points = 0
         for index, (row, said) in enumerate(zip(drawn.rows(), drawn.strips())):
-            label = bench.label(index)
-            self.assertEqual(row[4:6], [str(len(label.thrown)), str(label.silent)])
+            label, trace = bench.label(index)
+            self.assertEqual(row[4:6], [str(len(trace.thrown)), str(trace.placed.count(None))])
+            self.assertEqual((label.thrown, label.silent), (len(trace.thrown), trace.placed.count(None)))
             line = dict(point for run in said.line for point in run)
-            self.assertTrue(all(label.unrolled[wake] == at for wake, at in line.items()))
-            self.assertTrue(all(label.placed[wake] == at for wake, at in said.near + said.thrown))
-            self.assertLessEqual({wake for wake, _ in said.thrown}, label.thrown)
-            self.check_silence(bench, label, said)
-            self.check_outline(bench, label, dict(point for run in said.line for point in filled(run)), bins)
+            self.assertTrue(all(trace.unrolled[wake] == at for wake, at in line.items()))
+            self.assertTrue(all(trace.placed[wake] == at for wake, at in said.near + said.thrown))
+            self.assertLessEqual({wake for wake, _ in said.thrown}, trace.thrown)
+            self.check_silence(bench, trace, said)
+            self.check_outline(bench, trace, dict(point for run in said.line for point in filled(run)), bins)
             points += len(line) + len(said.near) + len(said.thrown)
         return points
 
-    def check_silence(self, bench, label, said):
+    def check_silence(self, bench, trace, said):
         """Where wakes are too narrow there are bars, each as high as the share of its wakes that is silent, but for the lowest."""
         if not said.bars:
-            self.assertEqual(sum(end - begin for begin, end in said.silent), label.silent)
+            self.assertEqual(sum(end - begin for begin, end in said.silent), trace.placed.count(None))
             return
-        bars = int((strip.WIDTH - strip.LEFT - strip.RIGHT) / strip.NARROWEST / 1.25)
+        bars = (strip.WIDTH - strip.LEFT - strip.RIGHT) // strip.BAR_APART
         ends = [bar * bench.wakes // bars for bar in range(bars + 1)]
-        shares = ((a + b - 1, label.placed[a:b].count(None) / (b - a)) for a, b in zip(ends, ends[1:]))
+        shares = ((a + b - 1, trace.placed[a:b].count(None) / (b - a)) for a, b in zip(ends, ends[1:]))
         due = [(middle / 2, max(1, strip.BAR * share)) for middle, share in shares if share]
         self.assertEqual(len(said.bars), len(due))
         for (x, height), (middle, high) in zip(said.bars, due):
             self.assertAlmostEqual(x, middle, places=1)
             self.assertAlmostEqual(-height, high, places=1)
 
-    def check_outline(self, bench, label, line, bins):
+    def check_outline(self, bench, trace, line, bins):
         """In each bin the line goes as low and as high as the phases do, to half of the strip's unit."""
-        unit = 0.5 / strip.frame_of(bench, label).tick + 1e-9
+        unit = 0.5 / strip.frame_of(bench, trace).tick + 1e-9
         whole, seen = {}, {}
-        for some, into in ((enumerate(label.unrolled), whole), (line.items(), seen)):
+        for some, into in ((enumerate(trace.unrolled), whole), (line.items(), seen)):
             for wake, at in some:
                 if at is not None:
                     low, high = into.get(wake * bins // bench.wakes, (at, at))
@@ -245,7 +246,7 @@ class Text(unittest.TestCase):
         for cycle, wakes in ((1, 1), (7, 2), (8, 5), (9, 40), (97, 300), (360, 960), (4096, 8192), (65535, 8192)):
             image = array("H", (k * 97 % cycle for k in range(wakes)))
             bench = Bench(cm.write_record(image, cycle, (1, 1)))
-            drawn, frame = Page(page(bench, "x")), strip.frame_of(bench, bench.label(0))
+            drawn, frame = Page(page(bench, "x")), strip.frame_of(bench, bench.label(0)[1])
             (section,) = drawn.by("section", "label")
             marks = [(part, drawn.words(part)) for part in drawn.by("text", "mark", section)]
             self.assertEqual({words for part, words in marks if "unit" in part.get("class")}, {"tick", "silent", "wake"})

@@ -166,10 +166,12 @@ class _WindowAnswer(ctypes.Structure):
     _fields_ = [("number", c_uint32), ("place", c_uint64), ("value", c_int64), ("filled", c_uint32)]
 
 
+# A live window has room for so many readings, and for a sum at each.
+_ROOM = c_uint16 * 63
+
+
 class _Window(ctypes.Structure):
-    _fields_ = [
-        ("cycle", c_uint32), ("length", c_uint32), ("filled", c_uint32), ("readings", c_uint16 * 63), ("sums", c_uint16 * 63),
-    ]
+    _fields_ = [("cycle", c_uint32), ("length", c_uint32), ("filled", c_uint32), ("readings", _ROOM), ("sums", _ROOM)]
 
 
 _BYTES = [POINTER(c_uint8), c_size_t]
@@ -412,7 +414,7 @@ def _filtered(engine: Engine, shape: Tuple[int, ...], ends: Tuple[int, int], ima
 
 
 def _is_level_faster(shape: Tuple[int, ...]) -> bool:
-    """As measured: the reading engine's time goes by the mask's elements, 3.5 of which take as long as a tick of the level engine's."""
+    """As measured: the reading engine takes as long for an element of the mask as the level engine for 3.5 ticks of the cycle."""
     cycle, _, _, mask_rows, mask_columns = shape
     return 2 * cycle < 7 * mask_rows * mask_columns
 

@@ -90,6 +90,7 @@ class Declarations(unittest.TestCase):
         return self.TYPES[words[0]]
 
     def test_structs(self):
+        (room,) = re.findall(r"^#define CIRCLE_MEDIAN_WINDOW (\d+)$", text("include", "circle_median.h"), re.M)
         found = re.findall(r"^typedef struct (circle_median_\w+) \{([^}]*)\}", text("include", "circle_median.h"), re.M)
         self.assertEqual({name for name, _ in found}, set(self.STRUCTS))
         for name, members in found:
@@ -99,7 +100,7 @@ class Declarations(unittest.TestCase):
             for (_, kind), (word, member) in zip(fields, due):
                 element = getattr(kind, "_type_", kind) if "[" in member else kind
                 self.assertEqual(element.__name__, self.TYPES[word], (name, member))
-                self.assertEqual(ctypes.sizeof(kind), ctypes.sizeof(element) * (63 if "[" in member else 1), (name, member))
+                self.assertEqual(ctypes.sizeof(kind), ctypes.sizeof(element) * (int(room) if "[" in member else 1), (name, member))
 
     def test_reasons(self):
         rust = dict(re.findall(r'^ *(\d+) => "(.*)",$', text("bindings", "rust", "src", "refusal.rs"), re.M))
