@@ -1,9 +1,13 @@
 # Builds what programs and people at the bench use, and puts it in place.
 #
-#   make                            proves and builds the static library, the shared library and the sheet program
-#   make shared                     the shared library alone, target/lib/libcircle_median.so, which Python needs
-#   make install PREFIX=/usr/local  puts in place, below PREFIX: the header, both libraries, circle_median.pc for pkg-config, the Python module, and
-#                                   the programs bench_sheet, bench_record and bench_picture; DESTDIR goes before PREFIX, for packages
+#   make                            proves and builds the static library, the shared library and the
+#                                   sheet program
+#   make shared                     the shared library alone, target/lib/libcircle_median.so, which
+#                                   Python needs
+#   make install PREFIX=/usr/local  puts in place, below PREFIX: the header, both libraries,
+#                                   circle_median.pc for pkg-config, the Python module, and the
+#                                   programs bench_sheet, bench_record and bench_picture; DESTDIR
+#                                   goes before PREFIX, for packages
 #   make uninstall PREFIX=..        takes it away again
 #   make test                       bindings/test
 

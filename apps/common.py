@@ -1,4 +1,5 @@
-"""What the programs for the bench share: how they are called, what they read and write, and how they stop."""
+"""What the programs for the bench share: how they are called, what they read and write, and how
+they stop."""
 from __future__ import annotations
 
 import argparse

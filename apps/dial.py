@@ -1,7 +1,8 @@
-"""The dial of a rack: the first and the last filtered phase of each label as hands, its drift as an arc on a ring of its own.
+"""The dial of a rack: the first and the last filtered phase of each label as hands, its drift as an
+arc on a ring of its own.
 
-Tick 0 is at the top and the cycle goes around clockwise. An arc of more than a turn winds outward; of many turns what is left of the
-last one is drawn, and their number told.
+Tick 0 is at the top and the cycle goes around clockwise. An arc of more than a turn winds outward;
+of many turns what is left of the last one is drawn, and their number told.
 """
 from __future__ import annotations
 
@@ -12,7 +13,8 @@ from typing import Iterator, NamedTuple
 from drawing import joined, marks, number, path, svg, text
 from figures import Bench, Label, words_of
 
-# Radii: of the rim, of the marks' words, of the outermost and innermost ring, and where hands begin.
+# Radii: of the rim, of the marks' words, of the outermost and innermost ring, and where hands
+# begin.
 RIM, WORDS, OUTER, INNER, HUB = 180, 190, 168, 52, 14
 SIDE = 2 * (WORDS + 34)
 
@@ -36,7 +38,8 @@ def _point(turn: float, radius: float) -> str:
 
 
 def _slot(bench: Bench) -> str:
-    """The listening slot as a sector, half a tick wider at both ends, and never too narrow to be seen."""
+    """The listening slot as a sector, half a tick wider at both ends, and wide enough to be
+    seen."""
     if bench.limits.slot is None:
         return ""
     start, width = bench.limits.slot
@@ -45,7 +48,10 @@ def _slot(bench: Bench) -> str:
     half = max(0.5, bench.cycle / 720)
     begin, end = (start - half) / bench.cycle, (start + width + half) / bench.cycle
     is_large = int(end - begin > 0.5)
-    return path("slot", f"M0 0L{_point(begin, RIM)}A{RIM} {RIM} 0 {is_large} 1 {_point(end, RIM)}Z", "the listening slot")
+    return path(
+        "slot", f"M0 0L{_point(begin, RIM)}A{RIM} {RIM} 0 {is_large} 1 {_point(end, RIM)}Z",
+        "the listening slot",
+    )
 
 
 def _face(bench: Bench) -> Iterator[str]:
@@ -64,7 +70,8 @@ def _face(bench: Bench) -> Iterator[str]:
 
 
 class Ring(NamedTuple):
-    """A label with its radii, at its first phase and at its last, which are one but for an arc that winds, and what an arc is wide."""
+    """A label with its radii, at its first phase and at its last, which are one but for an arc that
+    winds, and what an arc is wide."""
 
     label: Label
     begin: float
@@ -73,14 +80,16 @@ class Ring(NamedTuple):
 
 
 def drawn_of(labels: list[Label]) -> list[Label]:
-    """The labels that the dial has, of those of which something was heard: all, or the ones that drift most."""
+    """The labels that the dial has, of those of which something was heard: all, or the ones that
+    drift most."""
     heard = [label for label in labels if label.first is not None]
     most = sorted(heard, key=lambda label: -abs(label.drift))[:MOST]
     return sorted(most, key=lambda label: label.number)
 
 
 def _turns(cycle: int, label: Label) -> float:
-    """The turns of a label's arc: those of its drift, or where they are many what is left of the last one."""
+    """The turns of a label's arc: those of its drift, or where they are many what is left of the
+    last one."""
     turns = label.drift / cycle
     return turns if abs(turns) <= MOST_TURNS else math.fmod(label.drift, cycle) / cycle
 
@@ -94,9 +103,11 @@ def _arc(cycle: int, ring: Ring) -> str:
     """The way from the first to the last phase."""
     turns = _turns(cycle, ring.label)
     n = math.ceil(abs(turns) * SMOOTH)
+    if n == 0:
+        return ""
     begin, away = ring.label.first / cycle, ring.end - ring.begin
-    points = [_point(begin + turns * i / n, ring.begin + away * i / n) for i in range(n + 1)] if n else []
-    return f'<path class="arc" d="M{"L".join(points)}" stroke-width="{number(ring.wide)}"/>' if n else ""
+    points = (_point(begin + turns * i / n, ring.begin + away * i / n) for i in range(n + 1))
+    return f'<path class="arc" d="M{"L".join(points)}" stroke-width="{number(ring.wide)}"/>'
 
 
 def _hands(cycle: int, ring: Ring) -> Iterator[str]:
@@ -104,7 +115,8 @@ def _hands(cycle: int, ring: Ring) -> Iterator[str]:
     label = ring.label
     yield f'<g class="hands {way_of(label)}"><title>{html.escape(words_of(label))}</title>'
     for kind, phase, radius in (("first", label.first, ring.begin), ("last", label.last, ring.end)):
-        yield f'<path class="{kind}" d="M0 {-HUB}V{number(-radius)}" transform="rotate({360 * phase / cycle:.10g})"/>'
+        turn = f"rotate({360 * phase / cycle:.10g})"
+        yield f'<path class="{kind}" d="M0 {-HUB}V{number(-radius)}" transform="{turn}"/>'
     yield _arc(cycle, ring)
     x, y = _at(label.last / cycle, ring.end)
     yield f'<circle class="end" cx="{number(x)}" cy="{number(y)}" r="2.4"/></g>'
@@ -124,16 +136,19 @@ class Words(NamedTuple):
 
 
 def _number(cycle: int, ring: Ring) -> Words:
-    """A label's number beyond its last hand, with the turns of a drift that the arc has not all of."""
+    """A label's number beyond its last hand, with the turns where the arc has not all of them."""
     turns = int(ring.label.drift / cycle)
-    words = f"{ring.label.number}: {turns:+d} turns" if abs(ring.label.drift) > MOST_TURNS * cycle else str(ring.label.number)
+    words = str(ring.label.number)
+    if abs(ring.label.drift) > MOST_TURNS * cycle:
+        words += f": {turns:+d} turns"
     return Words(*_at(ring.label.last / cycle, ring.end + 9), words)
 
 
 def _numbers(cycle: int, rings: list[Ring]) -> Iterator[str]:
     """The numbers of labels, those that drift first, where none lies before."""
     taken: list[Words] = []
-    for each in (_number(cycle, ring) for ring in sorted(rings, key=lambda ring: not ring.label.drifts)):
+    for ring in sorted(rings, key=lambda ring: not ring.label.drifts):
+        each = _number(cycle, ring)
         if not any(each.is_on(other) for other in taken):
             taken.append(each)
             yield text(each.x, each.y + 3.5, each.words, "mark middle number")
@@ -150,10 +165,16 @@ def dial(bench: Bench, labels: list[Label]) -> str:
     """The dial of a rack, a ring to each label, those that drift on top."""
     drawn = drawn_of(labels)
     gap = (OUTER - INNER) / max(1, len(drawn))
-    rings = [_ring(bench.cycle, label, OUTER - gap * (k + 0.5), gap) for k, label in enumerate(drawn)]
+    rings = [
+        _ring(bench.cycle, label, OUTER - gap * (k + 0.5), gap) for k, label in enumerate(drawn)
+    ]
     on_top = sorted(rings, key=lambda ring: ring.label.drifts)
     return joined([
-        svg("dial", f"{-SIDE // 2} {-SIDE // 2} {SIDE} {SIDE}", f"the dial of the rack, {len(drawn)} of {len(labels)} labels"),
-        _slot(bench), *_face(bench), *(part for ring in on_top for part in _hands(bench.cycle, ring)), *_numbers(bench.cycle, rings),
-        '<circle class="hub" r="3"/>', "</svg>",
+        svg(
+            "dial", f"{-SIDE // 2} {-SIDE // 2} {SIDE} {SIDE}",
+            f"the dial of the rack, {len(drawn)} of {len(labels)} labels",
+        ),
+        _slot(bench), *_face(bench),
+        *(part for ring in on_top for part in _hands(bench.cycle, ring)),
+        *_numbers(bench.cycle, rings), '<circle class="hub" r="3"/>', "</svg>",
     ])

@@ -22,7 +22,8 @@ def text(x: float, y: float, words: object, kind: str) -> str:
 
 
 def path(kind: str, d: str, words: str = "") -> str:
-    """A path of a class, with words that are shown where it is pointed at; nothing if there is no path."""
+    """A path of a class, with words that are shown where it is pointed at; nothing if there is no
+    path."""
     inside = f"<title>{html.escape(words)}</title>" if words else ""
     return f'<path class="{kind}" d="{d}">{inside}</path>' if d else ""
 
@@ -36,8 +37,9 @@ def nice(least: float) -> int:
 
 
 def marks(cycle: int, parts: tuple[int, ...], least: float = 1) -> range:
-    """The ticks of a cycle that are marked, at least so far apart: as many as the first of `parts` that divides it into numbers of up
-    to four digits, else round numbers, of which none is close to the cycle's end."""
+    """The ticks of a cycle that are marked, at least so far apart: as many as the first of `parts`
+    that divides it into numbers of up to four digits, else round numbers, of which none is close to
+    the cycle's end."""
     even = (cycle // n for n in parts if cycle % n == 0)
     spacing = next((each for each in even if least <= each < 10_000), 0) or nice(max(1, least))
     return range(0, max(1, cycle - spacing // 2), spacing)

@@ -1,4 +1,5 @@
-"""The figures of a bench record that the page shows, all of them the library's: phases, distances, steps, slots and drift.
+"""The figures of a bench record that the page shows, all of them the library's: phases, distances,
+steps, slots and drift.
 
 What is decided here is only what the page calls thrown and drifting, by thresholds that it prints.
 """
@@ -18,8 +19,9 @@ KEPT = 1 << 18
 
 
 class Limits(NamedTuple):
-    """What the page marks: a reading more than `thrown` ticks from its filtered phase, a label that drifts by more than `drift`
-    ticks either way, and what leaves the slot of a start and a width."""
+    """What the page marks: a reading more than `thrown` ticks from its filtered phase, a label that
+    drifts by more than `drift` ticks either way, and what leaves the slot of a start and a
+    width."""
 
     thrown: int
     drift: int
@@ -34,9 +36,10 @@ def usual_limit(cycle: int) -> int:
 class Trace(NamedTuple):
     """A row of the record, wake by wake, as it is drawn.
 
-    `unrolled` has the filtered phases with the steps from each to the next added up, so that it goes on over zero; None where the
-    phase is silent. `placed` has the readings beside it: the unrolled phase and the step from the filtered phase to the reading.
-    `thrown` has the wakes that are marked.
+    `unrolled` has the filtered phases with the steps from each to the next added up, so that it
+    goes on over zero; None where the phase is silent. `placed` has the readings beside it: the
+    unrolled phase and the step from the filtered phase to the reading. `thrown` has the wakes that
+    are marked.
     """
 
     unrolled: list[Optional[int]]
@@ -61,7 +64,8 @@ class Label(NamedTuple):
 
 def words_of(label: Label) -> str:
     """A label's figures in words."""
-    return f"label {label.number}: first {spelled(label.first)}, last {spelled(label.last)}, drift {label.drift}"
+    first, last = spelled(label.first), spelled(label.last)
+    return f"label {label.number}: first {first}, last {last}, drift {label.drift}"
 
 
 def _ends(some: list[int]) -> tuple[Optional[int], Optional[int]]:
@@ -77,11 +81,15 @@ def _kept(call: Callable[..., int], *before: int) -> Callable[[int, int], int]:
 class Bench:
     """A record that was read and filtered by the library; a Refused if it refuses the record."""
 
-    def __init__(self, data: bytes, thrown: Optional[int] = None, drift: Optional[int] = None) -> None:
+    def __init__(
+        self, data: bytes, thrown: Optional[int] = None, drift: Optional[int] = None,
+    ) -> None:
         self.record = circle_median.read_record(data)
         self.cycle, (self.labels, self.wakes) = self.record.cycle, self.record.size
         usual = usual_limit(self.cycle)
-        self.limits = Limits(usual if thrown is None else thrown, usual if drift is None else drift, None)
+        self.limits = Limits(
+            usual if thrown is None else thrown, usual if drift is None else drift, None,
+        )
         self.filtered = circle_median.filter(*self.record)
         self._step = _kept(circle_median.step, self.cycle)
 
@@ -89,7 +97,9 @@ class Bench:
         """Marks what leaves a slot; a Refused if the library refuses it."""
         circle_median.slot(self.cycle, 0, start, width)
         self.limits = self.limits._replace(slot=(start, width))
-        self._is_inside = lru_cache(KEPT)(lambda phase: circle_median.slot(self.cycle, phase, start, width))
+        self._is_inside = lru_cache(KEPT)(
+            lambda phase: circle_median.slot(self.cycle, phase, start, width)
+        )
 
     def label(self, number: int) -> tuple[Label, Trace]:
         """The figures of a row and its trace."""
@@ -98,10 +108,13 @@ class Bench:
         heard, outside = [phase for phase in filtered if phase != SILENT], self._outside(filtered)
         trace = self._trace(raw, filtered, heard)
         drift = circle_median.drift(self.cycle, filtered)
-        return Label(
-            number, *_ends(heard), drift, abs(drift) > self.limits.drift, len(trace.thrown), raw.count(SILENT), len(outside),
-            *_ends(outside),
-        ), trace
+        return (
+            Label(
+                number, *_ends(heard), drift, abs(drift) > self.limits.drift, len(trace.thrown),
+                raw.count(SILENT), len(outside), *_ends(outside),
+            ),
+            trace,
+        )
 
     def _trace(self, raw: array[int], filtered: array[int], heard: list[int]) -> Trace:
         unrolled = self._unrolled(filtered, heard)
@@ -113,18 +126,32 @@ class Bench:
         going = accumulate(steps, initial=heard[0] if heard else 0)
         return [None if phase == SILENT else next(going) for phase in filtered]
 
-    def _placed(self, raw: array[int], filtered: array[int], unrolled: list[Optional[int]]) -> list[Optional[int]]:
+    def _placed(
+        self, raw: array[int], filtered: array[int], unrolled: list[Optional[int]],
+    ) -> list[Optional[int]]:
         """A wake that was heard has a filtered phase, since its window has a heard reading."""
         step = self._step
-        return [None if x == SILENT else at + step(phase, x) for x, phase, at in zip(raw, filtered, unrolled)]
+        return [
+            None if x == SILENT else at + step(phase, x)
+            for x, phase, at in zip(raw, filtered, unrolled)
+        ]
 
     def _thrown(self, unrolled: list[Optional[int]], placed: list[Optional[int]]) -> set[int]:
-        """The wakes that are far from their filtered phase: the size of a step is the distance of its ends, as is proved."""
+        """The wakes that are far from their filtered phase: the size of a step is the distance of
+        its ends, as is proved."""
         far = self.limits.thrown
-        return {wake for wake, (at, x) in enumerate(zip(unrolled, placed)) if x is not None and abs(x - at) > far}
+        return {
+            wake
+            for wake, (at, x) in enumerate(zip(unrolled, placed))
+            if x is not None and abs(x - at) > far
+        }
 
     def _outside(self, filtered: array[int]) -> list[int]:
         """The wakes whose filtered phase is not in the slot."""
         if self.limits.slot is None:
             return []
-        return [wake for wake, phase in enumerate(filtered) if phase != SILENT and not self._is_inside(phase)]
+        return [
+            wake
+            for wake, phase in enumerate(filtered)
+            if phase != SILENT and not self._is_inside(phase)
+        ]

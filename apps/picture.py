@@ -1,6 +1,7 @@
 """Draws a bench record as one page: a table, a dial of the rack, and a strip for each label.
 
-The figures are those of the proved library, which may refuse the record: then the page says so, and so does the program.
+The figures are those of the proved library, which may refuse the record: then the page says so, and
+so does the program.
 """
 from __future__ import annotations
 
@@ -33,20 +34,31 @@ def title_of(words: str) -> str:
 
 def _parser() -> Parser:
     parser = Parser(
-        prog=name(),
-        formatter_class=argparse.RawDescriptionHelpFormatter,
-        description="Draws a bench record as one HTML page: a table, a dial of the rack, and a strip for each label. It goes to standard\n"
-        f"output. Of a record that is refused the page says so, and the exit status is {REFUSED}.",
+        prog=name(), formatter_class=argparse.RawDescriptionHelpFormatter,
+        description="Draws a bench record as one HTML page: a table, a dial of the rack, and a\n"
+        "strip for each label. It goes to standard output. Of a record that is refused the page\n"
+        f"says so, and the exit status is {REFUSED}.",
         epilog="example:\n  %(prog)s --slot 80,40 bench.record > bench.html",
     )
-    parser.add_argument("--thrown", type=whole, metavar="TICKS",
-                        help="a reading is thrown if it is more than so far from its filtered phase; else a thirty-sixth of the cycle")
-    parser.add_argument("--drift", type=whole, metavar="TICKS",
-                        help="a label drifts if it does by more than so much, ahead or back; else a thirty-sixth of the cycle")
-    parser.add_argument("--slot", type=_slot, metavar="S,W", help="shades the listening slot that starts at tick S and is W wide, "
-                        "and marks the labels that leave it")
+    parser.add_argument(
+        "--thrown", type=whole, metavar="TICKS",
+        help="a reading is thrown if it is more than so far from its filtered phase; "
+        "else a thirty-sixth of the cycle",
+    )
+    parser.add_argument(
+        "--drift", type=whole, metavar="TICKS",
+        help="a label drifts if it does by more than so much, ahead or back; "
+        "else a thirty-sixth of the cycle",
+    )
+    parser.add_argument(
+        "--slot", type=_slot, metavar="S,W",
+        help="shades the listening slot that starts at tick S and is W wide, "
+        "and marks the labels that leave it",
+    )
     parser.add_argument("--title", help="the page's title; else the file's name")
-    parser.add_argument("file", nargs="?", metavar="RECORD", help="a record; else, or by a -, standard input")
+    parser.add_argument(
+        "file", nargs="?", metavar="RECORD", help="a record; else, or by a -, standard input",
+    )
     return parser
 
 
@@ -71,7 +83,8 @@ def main() -> None:
     if asked.slot:
         listen(bench, *asked.slot)
     if bench.labels * bench.wakes > LONG:
-        say(f"drawing {count(bench.labels, 'label')} of {count(bench.wakes, 'wake')}, which takes a while")
+        labels, wakes = count(bench.labels, "label"), count(bench.wakes, "wake")
+        say(f"drawing {labels} of {wakes}, which takes a while")
     given(page(bench, title).encode())
 
 

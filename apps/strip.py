@@ -1,7 +1,9 @@
-"""The strip of a label: its readings as dots, its filtered phase as a line, silent wakes as gaps and in a lane of their own.
+"""The strip of a label: its readings as dots, its filtered phase as a line, silent wakes as gaps
+and in a lane of their own.
 
-Paths are in wakes and ticks, as the figures have them; a transform lays them into the strip. A tick is drawn where the label is as
-it goes on over zero, so that the line never falls through the whole cycle; the axis tells ticks of the cycle.
+Paths are in wakes and ticks, as the figures have them; a transform lays them into the strip. A tick
+is drawn where the label is as it goes on over zero, so that the line never falls through the whole
+cycle; the axis tells ticks of the cycle.
 """
 from __future__ import annotations
 
@@ -11,14 +13,16 @@ from typing import Callable, Iterable, Iterator, NamedTuple
 from drawing import joined, marks, nice, number, path, svg, text
 from figures import Bench, Label, Trace, words_of
 
-# The strip, in its own units: the drawing's width and margins, what a cycle is high, and the most height.
+# The strip, in its own units: the drawing's width and margins, what a cycle is high, and the most
+# height.
 WIDTH, LEFT, RIGHT, TOP, BOTTOM = 1000, 60, 12, 18, 44
 CYCLE_HEIGHT, MOST = 120, 360
 
 # What is narrower cannot be seen.
 NARROWEST = 1.5
 
-# Below the axis lies the lane of silent wakes. Where they are too narrow it has bars, so far apart and so high at most.
+# Below the axis lies the lane of silent wakes. Where they are too narrow it has bars, so far apart
+# and so high at most.
 LANE, BAR_APART, BAR = 14, 2, 9
 
 # Marks of an axis are so far apart at least.
@@ -29,12 +33,14 @@ BINS, FEWEST, FINEST = 200_000, 150, 2_000
 
 
 def bins_of(bench: Bench) -> int:
-    """How many bins a strip's wakes are drawn in: as many as there are wakes, if the page can have so many."""
+    """How many bins a strip's wakes are drawn in: as many as there are wakes, if the page can have
+    so many."""
     return min(bench.wakes, max(FEWEST, min(FINEST, BINS // bench.labels)))
 
 
 class Frame(NamedTuple):
-    """Where a strip has its ticks and wakes: from `low` to `high` on the unrolled axis, so many units for each tick and each wake."""
+    """Where a strip has its ticks and wakes: from `low` to `high` on the unrolled axis, so many
+    units for each tick and each wake."""
 
     low: float
     high: float
@@ -61,7 +67,8 @@ class Frame(NamedTuple):
 
 
 def frame_of(bench: Bench, trace: Trace) -> Frame:
-    """A strip has half a cycle at least. All have the same scale, but for those that would be too high."""
+    """A strip has half a cycle at least. All have the same scale, but for those that would be too
+    high."""
     drawn = [at for at in (*trace.unrolled, *trace.placed) if at is not None] or [0]
     wider = max(0.0, bench.cycle / 2 - (max(drawn) + 1 - min(drawn))) / 2
     low, high = min(drawn) - 0.5 - wider, max(drawn) + 0.5 + wider
@@ -69,7 +76,8 @@ def frame_of(bench: Bench, trace: Trace) -> Frame:
     return Frame(low, high, height / (high - low), (WIDTH - LEFT - RIGHT) / bench.wakes)
 
 
-# What is drawn of the wakes. A dot is a line that is short, and not of no length, which is not printed.
+# What is drawn of the wakes. A dot is a line that is short, and not of no length, which is not
+# printed.
 DOT = "h.01"
 
 
@@ -80,8 +88,8 @@ def _bin(bench: Bench) -> Callable[[int], int]:
 
 
 def _line_wakes(bench: Bench, trace: Trace, tick: float) -> Iterator[list[int]]:
-    """The wakes of each bin that the line goes through: the first and last, and where it is lowest and highest if that can be told
-    from them."""
+    """The wakes of each bin that the line goes through: the first and last, and where it is lowest
+    and highest if that can be told from them."""
     at = trace.unrolled.__getitem__
     heard = (wake for wake, phase in enumerate(trace.unrolled) if phase is not None)
     for _, some in groupby(heard, _bin(bench)):
@@ -93,7 +101,8 @@ def _line_wakes(bench: Bench, trace: Trace, tick: float) -> Iterator[list[int]]:
 
 
 def _runs(bench: Bench, trace: Trace, tick: float) -> Iterator[list[int]]:
-    """The wakes that the line goes through without a break. It is broken where a whole bin is silent."""
+    """The wakes that the line goes through without a break. It is broken where a whole bin is
+    silent."""
     run: list[int] = []
     bin_of = _bin(bench)
     for some in _line_wakes(bench, trace, tick):
@@ -109,9 +118,14 @@ def line_of(bench: Bench, trace: Trace, tick: float) -> str:
     """The line of the filtered phase, without the points between two of the same height."""
     words, at = [], trace.unrolled.__getitem__
     for run in _runs(bench, trace, tick):
-        bends = [wake for before, wake, after in zip(run, run[1:], run[2:]) if not at(before) == at(wake) == at(after)]
+        bends = [
+            wake
+            for before, wake, after in zip(run, run[1:], run[2:])
+            if not at(before) == at(wake) == at(after)
+        ]
         points = [run[0], *bends, run[-1]] if len(run) > 1 else run
-        words.append("M" + "L".join(f"{wake} {at(wake)}" for wake in points) + (DOT if len(run) == 1 else ""))
+        way = "L".join(f"{wake} {at(wake)}" for wake in points)
+        words.append(f"M{way}{DOT if len(run) == 1 else ''}")
     return "".join(words)
 
 
@@ -128,20 +142,23 @@ def dots_of(bench: Bench, trace: Trace, which: Iterable[int], tick: float) -> st
 
 
 def silence_of(trace: Trace) -> str:
-    """The wakes that were not heard, as strokes from the first to the last of some that follow each other."""
+    """The wakes that were not heard, as strokes from the first to the last of some that follow each
+    other."""
     silent = (wake for wake, at in enumerate(trace.placed) if at is None)
     runs = (list(run) for _, run in groupby(enumerate(silent), lambda pair: pair[1] - pair[0]))
     return "".join(f"M{number(run[0][1] - 0.5)} 0H{number(run[-1][1] + 0.5)}" for run in runs)
 
 
 def shares_of(trace: Trace, bars: int) -> str:
-    """How many of the wakes of each bar were not heard, where single ones are too narrow: a bar is the higher the more they are."""
+    """How many of the wakes of each bar were not heard, where single ones are too narrow: a bar is
+    the higher the more they are."""
     words, wakes = [], len(trace.placed)
     for bar in range(bars):
         first, end = bar * wakes // bars, (bar + 1) * wakes // bars
         silent = trace.placed[first:end].count(None)
         if silent:
-            words.append(f"M{number((first + end - 1) / 2)} 0v{number(-max(1, BAR * silent / (end - first)))}")
+            middle, height = (first + end - 1) / 2, max(1, BAR * silent / (end - first))
+            words.append(f"M{number(middle)} 0v{number(-height)}")
     return "".join(words)
 
 
@@ -159,7 +176,11 @@ def _tick_marks(bench: Bench, frame: Frame) -> Iterator[int]:
     cycle, least = bench.cycle, APART / frame.tick
     ticks, turns = marks(cycle, (4, 5, 3, 6, 2), least), max(1, -(-int(least) // cycle))
     for turn in range(int(frame.low // cycle), int(frame.high // cycle) + 1):
-        yield from (turn * cycle + tick for tick in ticks if turn % turns == 0 and frame.low <= turn * cycle + tick <= frame.high)
+        yield from (
+            turn * cycle + tick
+            for tick in ticks
+            if turn % turns == 0 and frame.low <= turn * cycle + tick <= frame.high
+        )
 
 
 def _tick_axis(bench: Bench, frame: Frame) -> Iterator[str]:
@@ -196,13 +217,17 @@ def _slots(bench: Bench, frame: Frame) -> Iterator[str]:
         first = turn * bench.cycle + start
         low, high = max(frame.low, first - half), min(frame.high, first + width + half)
         if low < high:
-            yield f'<rect class="slot" x="-0.5" y="{number(low)}" width="{bench.wakes}" height="{number(high - low)}"/>'
+            size = f'width="{bench.wakes}" height="{number(high - low)}"'
+            yield f'<rect class="slot" x="-0.5" y="{number(low)}" {size}/>'
 
 
 def strip(bench: Bench, label: Label, trace: Trace) -> str:
     """The drawing of a label."""
     frame = frame_of(bench, trace)
-    near = (wake for wake, at in enumerate(trace.placed) if at is not None and wake not in trace.thrown)
+    near = (
+        wake for wake, at in enumerate(trace.placed) if at is not None and wake not in trace.thrown
+    )
+    lane = f"matrix({frame.wake:.6g} 0 0 1 {frame.x(0):.6g} {number(frame.bottom + LANE - 3)})"
     return joined([
         svg("strip", f"0 0 {WIDTH} {number(frame.bottom + BOTTOM)}", words_of(label)),
         f'<g transform="{frame.placed}">', *_slots(bench, frame), "</g>",
@@ -212,7 +237,7 @@ def strip(bench: Bench, label: Label, trace: Trace) -> str:
         path("thrown", dots_of(bench, trace, sorted(trace.thrown), frame.tick)),
         path("line", line_of(bench, trace, frame.tick)),
         "</g>",
-        f'<g transform="matrix({frame.wake:.6g} 0 0 1 {frame.x(0):.6g} {number(frame.bottom + LANE - 3)})">',
+        f'<g transform="{lane}">',
         _silence(trace, frame),
         "</g>", "</svg>",
     ])

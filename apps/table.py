@@ -1,7 +1,9 @@
-"""Tables of readings as text, as spreadsheets write them: a row to a label, a column to a wake, and nothing else.
+"""Tables of readings as text, as spreadsheets write them: a row to a label, a column to a wake, and
+nothing else.
 
-A cell is a tick of the cycle, and of a silent wake it is empty or has a `-`. Cells stand between commas; between semicolons or
-tabs if the first line has such. They may be quoted. Whether a number is a tick of the cycle is for the library to say.
+A cell is a tick of the cycle, and of a silent wake it is empty or has a `-`. Cells stand between
+commas; between semicolons or tabs if the first line has such. They may be quoted. Whether a number
+is a tick of the cycle is for the library to say.
 """
 from __future__ import annotations
 
@@ -46,7 +48,9 @@ def _lines(data: bytes) -> list[str]:
         text, bad = "", trouble.start
     if bad >= 0:
         line = plain.count(b"\n", 0, bad) + 1
-        raise BadTable(f"line {line}: this is no text in UTF-8; let the spreadsheet write CSV in UTF-8")
+        raise BadTable(
+            f"line {line}: this is no text in UTF-8; let the spreadsheet write CSV in UTF-8"
+        )
     return text.removesuffix("\n").split("\n")
 
 
@@ -63,8 +67,8 @@ def _rows(lines: list[str]) -> Iterator[tuple[int, list[str]]]:
 
 
 def _filled(rows: Iterator[tuple[int, list[str]]]) -> Iterator[tuple[int, list[str]]]:
-    """The rows without the empty lines at the end. An empty line that may stand for a label is a BadTable: one before the end,
-    and any in a table of one column."""
+    """The rows without the empty lines at the end. An empty line that may stand for a label is a
+    BadTable: one before the end, and any in a table of one column."""
     empty = columns = 0
     for line, cells in rows:
         if not cells:
@@ -79,7 +83,8 @@ def _filled(rows: Iterator[tuple[int, list[str]]]) -> Iterator[tuple[int, list[s
 
 
 def _reading(cell: str) -> int:
-    """The number in a cell; ValueError if there is none, OverflowError if no cycle has it as a tick."""
+    """The number in a cell; ValueError if there is none, OverflowError if no cycle has it as a
+    tick."""
     word = cell.strip(" \t")
     if word in ("", "-"):
         return SILENT
@@ -105,7 +110,8 @@ def _row(line: int, cells: list[str], cycle: int) -> Iterator[int]:
         except OverflowError:
             raise BadTable(f"{place(line, column)}: {no_tick(_shown(cell), cycle)}") from None
         except ValueError:
-            raise BadTable(f"{place(line, column)}: {_shown(cell)!r} is neither a whole number nor a silent wake, -") from None
+            wrong = f"{_shown(cell)!r} is neither a whole number nor a silent wake, -"
+            raise BadTable(f"{place(line, column)}: {wrong}") from None
 
 
 def parse(data: bytes, cycle: int) -> Table:
@@ -115,7 +121,9 @@ def parse(data: bytes, cycle: int) -> Table:
     for line, cells in _filled(_rows(_lines(data))):
         columns = columns or len(cells)
         if len(cells) != columns:
-            raise BadTable(f"line {line} has {count(len(cells), 'cell')}, and line {lines[0]} has {columns}")
+            raise BadTable(
+                f"line {line} has {count(len(cells), 'cell')}, and line {lines[0]} has {columns}"
+            )
         readings.extend(_row(line, cells, cycle))
         lines.append(line)
     if not lines:

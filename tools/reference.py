@@ -1,8 +1,9 @@
-"""Document 01, with document 02's silent wakes (T-01), repeated mirror (T-02), live window (T-03) and half a cycle as a step back
-(T-04), in Python, by direct sums: no running sums, and nothing shared with the crates.
+"""The rules of docs/SPECIFICATION.md in Python, by direct sums: no running sums, and nothing shared
+with the crates.
 
-The stored outputs of the test programs are made with it. A call returns its result, or a Refusal. A reading, in an image, a
-row or a record, is a tick of the cycle or silent; an argument of distance, step or slot is a tick.
+The stored outputs of the test programs are made with it. A call returns its result, or a Refusal. A
+reading, in an image, a row or a record, is a tick of the cycle or silent; an argument of distance,
+step or slot is a tick.
 """
 from collections import namedtuple
 
@@ -29,7 +30,8 @@ def step(c, a, b):
 
 
 def drift(c, row):
-    """The steps from each heard reading to the next one heard, whatever is silent between them; 0 with none or one heard."""
+    """The steps from each heard reading to the next one heard, whatever is silent between them; 0
+    with none or one heard."""
     ticks = heard(row)
     return sum(step(c, a, b) for a, b in zip(ticks, ticks[1:]))
 
@@ -39,7 +41,8 @@ def in_slot(c, p, s, w):
 
 
 def arguments(c, *ticks):
-    """The tests of distance, step and slot: 1, then 9 with the argument's place. A silent reading is no tick."""
+    """The tests of distance, step and slot: 1, then 9 with the argument's place. A silent reading
+    is no tick."""
     if not 1 <= c <= 65535:
         return Refusal(1, 0)
     for k, x in enumerate(ticks):
@@ -84,7 +87,7 @@ def mask_fault(r, t):
 
 
 def shape_refusal(limit, shape):
-    """Tests 1 to 3 on a cycle, an image's size and a mask's size. 4 is never given."""
+    """Tests 1 to 3 on a cycle, an image's size and a mask's size."""
     c, m, n, r, t = shape
     if not 1 <= c <= limit:
         return Refusal(1, 0)
@@ -118,7 +121,10 @@ def write_record(c, m, n, r, t, readings, room):
     if bad is not None:
         return Refusal(9, bad)
     rows = [readings[i * n:(i + 1) * n] for i in range(m)]
-    return field(1, c) + field(2, m, n) + field(3, r, t) + b"".join(field(4, *row) for row in rows) + field(255)
+    return (
+        field(1, c) + field(2, m, n) + field(3, r, t) + b"".join(field(4, *row) for row in rows)
+        + field(255)
+    )
 
 
 class Stop(Exception):
@@ -126,7 +132,8 @@ class Stop(Exception):
 
 
 def read_record(record, room):
-    """What the reader makes of any bytes, with room for that many readings: a Record or a Refusal."""
+    """What the reader makes of any bytes, with room for that many readings: a Record or a
+    Refusal."""
     at = 0
 
     def stop(number, place=0):
@@ -177,7 +184,7 @@ def read_record(record, room):
 
 
 def mirrored(size, x):
-    """An index of a line of that many places, or one beyond its edges, as what it stands for: mirrored as often as necessary."""
+    """The place, in a line of that many, that any index stands for: SPECIFICATION, "Mirror"."""
     k = x % (2 * size)
     return k if k < size else 2 * size - 1 - k
 
@@ -195,7 +202,8 @@ def summed(c, x, ticks):
 
 
 def chosen(c, centre, ticks, among):
-    """Among some ticks those of least sum, and of these the one nearest to the centre; of two, the one ahead of it."""
+    """Among some ticks those of least sum, and of these the one nearest to the centre; of two, the
+    one ahead of it."""
     sums = {x: summed(c, x, ticks) for x in set(among)}
     least = min(sums.values())
     equals = [x for x in sums if sums[x] == least]
@@ -205,18 +213,20 @@ def chosen(c, centre, ticks, among):
 
 
 def centre_of(centre, readings):
-    """What takes the centre's part among equals: itself, or the window's first heard reading if it is silent."""
+    """What takes the centre's part among equals: itself, or the window's first heard reading if it
+    is silent."""
     return centre if centre != SILENT else next(iter(heard(readings)), SILENT)
 
 
 def phase(c, centre, readings):
-    """What is written for a window: the chosen one of its heard readings, or silence if there is none."""
+    """What is written for a window: the chosen one of its heard readings, or silence if there is
+    none."""
     ticks = heard(readings)
     return chosen(c, centre_of(centre, readings), ticks, ticks) if ticks else SILENT
 
 
 def filter_refusal(limit, need, shape, first, end, image, output, work):
-    """Tests 1 to 9 of a filter call; need is the engine's length of work memory."""
+    """The tests of a filter call, 1 to 3 and 5 to 9; need is the engine's length of work memory."""
     refusal = shape_refusal(limit, shape)
     if refusal:
         return refusal
@@ -260,7 +270,8 @@ def live_refusal(c, t):
 
 
 class LiveWindow:
-    """A window of C and T, as all the readings that it has accepted since it was fresh; these are None where no call made it."""
+    """A window of C and T, as all the readings that it has accepted since it was fresh; these are
+    None where no call made it."""
 
     def __init__(self, c, t, history):
         self.c, self.t, self.history = c, t, history
@@ -273,7 +284,8 @@ class LiveWindow:
         return refusal
 
     def push(self, reading):
-        """Filling, the median of the last T, or a Refusal: 1 and 3, then 9. Where no call made the window there is some answer."""
+        """Filling, the median of the last T, or a Refusal: 1 and 3, then 9. Where no call made the
+        window there is some answer."""
         refusal = live_refusal(self.c, self.t)
         if refusal:
             return refusal
@@ -290,13 +302,14 @@ class LiveWindow:
         return ([SILENT] * self.t + self.history)[len(self.history):]
 
     def members(self):
-        """How many of the last T were pushed, the last T, and the sum at each, 0 at a silent one; behind them 63 - T silent ones."""
+        """How many of the last T were pushed, the last T, and the sum at each, 0 at a silent one;
+        behind them 63 - T silent ones."""
         last, rest = self.last(), 63 - self.t
         sums = [0 if x == SILENT else summed(self.c, x, heard(last)) for x in last]
         return min(len(self.history), self.t), last + [SILENT] * rest, sums + [0] * rest
 
 
-def told(outcome):
+def outcome_of(outcome):
     """An outcome as the test programs print it."""
     if isinstance(outcome, Refusal):
         return f"refused {outcome.number} at {outcome.place}"

@@ -9,8 +9,8 @@ HTML, SVG = "{http://www.w3.org/1999/xhtml}", "{http://www.w3.org/2000/svg}"
 
 
 class Strip(NamedTuple):
-    """A strip: its line in runs of (wake, tick), its readings, which wakes are marked as silent, the bars of silence where wakes
-    are too narrow, and between which ticks the slot lies."""
+    """A strip: its line in runs of (wake, tick), its readings, which wakes are marked as silent,
+    the bars of silence where wakes are too narrow, and between which ticks the slot lies."""
 
     line: list[list[tuple[int, int]]]
     near: list[tuple[int, int]]
@@ -21,8 +21,14 @@ class Strip(NamedTuple):
 
 
 def filled(run: list[tuple[int, int]]) -> list[tuple[int, int]]:
-    """A run with the wakes between two points of the same height, through which the line goes too."""
-    between = [(wake, at) for (first, at), (last, other) in zip(run, run[1:]) if at == other for wake in range(first + 1, last)]
+    """A run with the wakes between two points of the same height, through which the line goes
+    too."""
+    between = [
+        (wake, at)
+        for (first, at), (last, other) in zip(run, run[1:])
+        if at == other
+        for wake in range(first + 1, last)
+    ]
     return sorted(run + between)
 
 
@@ -45,7 +51,12 @@ class Page:
     def by(self, tag: str, kind: str, within=None) -> list:
         """The parts of a tag and a class."""
         within = self.tree if within is None else within
-        return [part for space in (HTML, SVG) for part in within.iter(space + tag) if kind in part.get("class", "").split()]
+        return [
+            part
+            for space in (HTML, SVG)
+            for part in within.iter(space + tag)
+            if kind in part.get("class", "").split()
+        ]
 
     @staticmethod
     def words(part) -> str:
@@ -73,9 +84,16 @@ class Page:
             return [(int(x), int(y)) for x, y in re.findall(r"[ML](-?\d+) (-?\d+)", path)]
 
         silent, bars = (
-            [(float(x), float(end)) for x, end in re.findall(rf"M(-?[\d.]+) 0{way}(-?[\d.]+)", d("silent"))] for way in "Hv"
+            [
+                (float(x), float(end))
+                for x, end in re.findall(rf"M(-?[\d.]+) 0{way}(-?[\d.]+)", d("silent"))
+            ]
+            for way in "Hv"
         )
-        slots = [(float(rect.get("y")), float(rect.get("y")) + float(rect.get("height"))) for rect in self.by("rect", "slot", section)]
+        slots = [
+            (float(rect.get("y")), float(rect.get("y")) + float(rect.get("height")))
+            for rect in self.by("rect", "slot", section)
+        ]
         line = [points("M" + run) for run in d("line").split("M")[1:]]
         return Strip(line, points(d("near")), points(d("thrown")), silent, bars, slots)
 
@@ -90,4 +108,6 @@ class Page:
 
         arcs = [arc.get("d") for arc in self.by("path", "arc", part)]
         kind = part.get("class").split()[1]
-        return Hands(self.words(part[0]), kind, turn("first"), turn("last"), arcs[0] if arcs else None)
+        return Hands(
+            self.words(part[0]), kind, turn("first"), turn("last"), arcs[0] if arcs else None,
+        )

@@ -1,4 +1,5 @@
-"""Where things are, for the tests; the programs, the module and the reference can be imported once this is."""
+"""Where things are, for the tests; the programs, the module and the reference can be imported once
+this is."""
 import os
 import sys
 

@@ -1,4 +1,5 @@
-"""Reads the pixels of a PNG file of 8 bits a colour, as a browser's screenshot is, with the standard library."""
+"""Reads the pixels of a PNG file of 8 bits a colour, as a browser's screenshot is, with the
+standard library."""
 from __future__ import annotations
 
 import struct
@@ -40,7 +41,9 @@ class Picture:
     def _decode(self, coded: bytes, length: int) -> None:
         self.rows = [bytes(length)]
         for at in range(0, len(coded), length + 1):
-            self.rows.append(_row(coded[at], coded[at + 1:at + 1 + length], self.rows[-1], self.size))
+            self.rows.append(
+                _row(coded[at], coded[at + 1:at + 1 + length], self.rows[-1], self.size)
+            )
         del self.rows[0]
 
     def pixel(self, x: int, y: int) -> tuple[int, int, int]:

@@ -1,5 +1,6 @@
--- How the exported functions tell an outcome in plain numbers: "number 0 means accepted"; a refusal gives its number and its place,
--- and 0 for everything else but the count of a live window, which stays.
+-- How the exported functions give an outcome in plain numbers: the number 0 is that of an accepted
+-- call; a refusal gives its number and its place, and 0 for all else but the count of a live
+-- window. SPECIFICATION, "Numbers".
 use Rattle.std.specs.Prelude.{ℕ, Bool, if◌then◌else◌, ℤ, pos, negsuc}
 use Rattle.refusal.specs.Outcome.{Outcome}
 use Rattle.refusal.specs.Outcome.Outcome.{accepted, refused}
@@ -12,7 +13,7 @@ use Rattle.circle_median.specs.declared.answers.ValueAnswer.{ValueAnswer}
 use Rattle.circle_median.specs.declared.answers.RecordAnswer.{RecordAnswer}
 use Rattle.circle_median.specs.declared.answers.WindowAnswer.{WindowAnswer}
 
--- the five numbers C, M, N, R and T as a shape
+-- five numbers as a shape: cycle, rows, columns, mask rows and mask columns
 abbrev pub shape_of : ℕ → ℕ → ℕ → ℕ → ℕ → Shape
 shape_of c m n r t = record { cycle = c; rows = m; columns = n; mask_rows = r; mask_columns = t }
 
@@ -37,17 +38,18 @@ record_of (accepted s) = record {
   mask_rows = s.mask_rows;
   mask_columns = s.mask_columns;
 }
-record_of (refused n k) = record { number = n; place = k; cycle = 0; rows = 0; columns = 0; mask_rows = 0; mask_columns = 0 }
+record_of (refused n k) = record
+    { number = n; place = k; cycle = 0; rows = 0; columns = 0; mask_rows = 0; mask_columns = 0 }
 
 -- a value that is a natural number: a distance or a length
-abbrev pub natural : Outcome ℕ → Outcome ℤ
-natural (accepted n) = accepted (pos n)
-natural (refused n k) = refused n k
+abbrev pub natural_value : Outcome ℕ → Outcome ℤ
+natural_value (accepted n) = accepted (pos n)
+natural_value (refused n k) = refused n k
 
 -- a value that is yes or no: 1 or 0
-abbrev pub flag : Outcome Bool → Outcome ℤ
-flag (accepted b) = accepted (if b then pos 1 else pos 0)
-flag (refused n k) = refused n k
+abbrev pub flag_value : Outcome Bool → Outcome ℤ
+flag_value (accepted b) = accepted (if b then pos 1 else pos 0)
+flag_value (refused n k) = refused n k
 
 -- what a live window answers, as a value: the phase, 65,535 if none is heard, -1 while it fills
 abbrev pub live_value : Live → ℤ
@@ -55,10 +57,12 @@ live_value Filling = negsuc 0
 live_value (Phase p) = pos p
 live_value Silent = pos silent
 
-abbrev pub lived : Outcome Live → Outcome ℤ
-lived (accepted v) = accepted (live_value v)
-lived (refused n k) = refused n k
+-- of a push into a live window
+abbrev pub live_outcome : Outcome Live → Outcome ℤ
+live_outcome (accepted v) = accepted (live_value v)
+live_outcome (refused n k) = refused n k
 
 -- an answer with a value, and the count of readings that a push leaves
 abbrev pub window_answer_of : ValueAnswer → ℕ → WindowAnswer
-window_answer_of a filled = record { number = a.number; place = a.place; value = a.value; filled = filled }
+window_answer_of a filled =
+    record { number = a.number; place = a.place; value = a.value; filled = filled }

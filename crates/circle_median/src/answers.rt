@@ -1,56 +1,74 @@
-// The structs that C sees, and what the calls answer turned into them.
+//! The structs that C sees, and what the calls answer turned into them.
+
 ghost use Rattle.std.specs.Prelude.{◌≡◌, ◌<◌, ◌^◌, pos};
 ghost use Rattle.refusal.specs.Outcome.{outcome};
-ghost use Rattle.circle_median.specs.Answers.{answer_of, value_of, record_of, live_value, lived, window_answer_of};
+ghost use Rattle.circle_median.specs.Answers.{answer_of, value_of, record_of, live_value};
+ghost use Rattle.circle_median.specs.Answers.{live_outcome, window_answer_of};
 
 use cycle::SILENT;
 use live::Live;
 use refusal::Refusal;
 use shape::Shape;
 
-// Number 0 means accepted; any other is a refusal's, with its place.
+/// The answer of a call without a value.
 #[repr(C)]
 #[derive(Clone, Copy)]
 pub struct Answer {
+    /// 0 if the call was accepted, else the number of the refusal.
     pub number: u32,
+    /// The place of the refusal; 0 where it has none, and of an accepted call.
     pub place: u64,
 }
 
-// An answer with a value, 0 if the call was refused.
+/// The answer of a call with a value.
 #[repr(C)]
 #[derive(Clone, Copy)]
 pub struct ValueAnswer {
+    /// 0 if the call was accepted, else the number of the refusal.
     pub number: u32,
+    /// The place of the refusal, as of `Answer`.
     pub place: u64,
+    /// What the call says; 0 if it was refused.
     pub value: i64,
 }
 
-// An answer with the five numbers of a record, 0 if it was refused.
+/// The answer of the reader of records. Its five numbers are 0 if the record was refused.
 #[repr(C)]
 #[derive(Clone, Copy)]
 pub struct RecordAnswer {
+    /// 0 if the record was accepted, else the number of the refusal.
     pub number: u32,
+    /// The place of the refusal, as of `Answer`.
     pub place: u64,
+    /// Ticks of the cycle.
     pub cycle: u32,
+    /// Labels of the image.
     pub rows: u32,
+    /// Wakes of the image.
     pub columns: u32,
+    /// Labels of the mask.
     pub mask_rows: u32,
+    /// Wakes of the mask.
     pub mask_columns: u32,
 }
 
-// An answer of a live window: the value is the phase, 65,535 if none is heard, -1 while the window fills, and 0 if the
-// reading was refused; and how many readings are there.
+/// The answer of a push into a live window.
 #[repr(C)]
 #[derive(Clone, Copy)]
 pub struct WindowAnswer {
+    /// 0 if the reading was accepted, else the number of the refusal.
     pub number: u32,
+    /// The place of the refusal, as of `Answer`.
     pub place: u64,
+    /// The chosen phase, a tick; 65,535 if none is heard, -1 while the window fills, and 0 if the
+    /// reading was refused.
     pub value: i64,
+    /// How many of the window's readings have come.
     pub filled: u32,
 }
 
 impl From<Result<(), Refusal>> for Answer {
-    ghost from_gives = { λ answer told. told ≡ answer_of (outcome answer) };
+    ghost from_gives = { λ result answer. answer ≡ answer_of (outcome result) };
 
     fn from(answer: Result<(), Refusal>) -> Answer {
         match answer {
@@ -67,7 +85,7 @@ impl From<Result<(), Refusal>> for Answer {
 }
 
 impl From<Result<i64, Refusal>> for ValueAnswer {
-    ghost from_gives = { λ answer told. told ≡ value_of (outcome answer) };
+    ghost from_gives = { λ result answer. answer ≡ value_of (outcome result) };
 
     fn from(answer: Result<i64, Refusal>) -> ValueAnswer {
         match answer {
@@ -86,7 +104,7 @@ impl From<Result<i64, Refusal>> for ValueAnswer {
 }
 
 impl From<Result<Shape, Refusal>> for RecordAnswer {
-    ghost from_gives = { λ answer told. told ≡ record_of (outcome answer) };
+    ghost from_gives = { λ result answer. answer ≡ record_of (outcome result) };
 
     fn from(answer: Result<Shape, Refusal>) -> RecordAnswer {
         match answer {
@@ -112,7 +130,7 @@ impl From<Result<Shape, Refusal>> for RecordAnswer {
     }
 }
 
-// The length of a record as a value; a function, so that the bound of the cast has a place.
+/// The length of a record as a value.
 pub fn length_value(length: usize) -> i64
     requires { length < 2 ^ 63 }
     ensures { result ≡ pos length }
@@ -120,7 +138,7 @@ pub fn length_value(length: usize) -> i64
     length as i64
 }
 
-// What a live window answers as a value.
+// What a live window answers, as a value.
 fn live_value(live: Live) -> i64
     ensures { result ≡ live_value live }
 {
@@ -131,15 +149,15 @@ fn live_value(live: Live) -> i64
     }
 }
 
-// Of a push into a live window, with the count of readings after it, which no `From` would be given.
+/// The answer of a push into a live window, with the count of readings after it.
 pub fn window_answer(answer: Result<Live, Refusal>, filled: u32) -> WindowAnswer
-    ensures { result ≡ window_answer_of (value_of (lived (outcome answer))) filled }
+    ensures { result ≡ window_answer_of (value_of (live_outcome (outcome answer))) filled }
 {
-    let told = ValueAnswer::from(answer.map(live_value));
+    let answer = ValueAnswer::from(answer.map(live_value));
     WindowAnswer {
-        number: told.number,
-        place: told.place,
-        value: told.value,
+        number: answer.number,
+        place: answer.place,
+        value: answer.value,
         filled,
     }
 }

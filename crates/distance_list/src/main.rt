@@ -1,6 +1,8 @@
-// Prints the distances on 360 ticks by the formula, from tick 0 to each tick: the numbers of the list in
-// crates/cycle/src/list.rt (document 02, T-05), which it does not read. It takes no input, so its one run, compared
-// with the file stdout, is all that it does.
+//! Prints the list of distances on 360 ticks: the distance from tick 0 to each tick, computed by
+//! the formula and not taken from the list that `distance` looks in. Each number is followed by a
+//! comma and a line feed. There is no input.
+//!
+//! Where no more can be printed, or memory runs out, it ends with an error and the exit status 1.
 #![tactic(auto)]
 
 use std::io;
@@ -8,7 +10,6 @@ use std::io::{BufWriter, Write};
 
 const TICKS: u16 = 360;
 
-// "each number followed by a comma and a line feed"
 fn print_list(rt: &(impl Print + AllocGlobal)) -> io::Result<()> {
     let mut out = BufWriter::new(rt.alloc(), io::writer(rt))?;
     for tick in 0..TICKS {
@@ -18,7 +19,6 @@ fn print_list(rt: &(impl Print + AllocGlobal)) -> io::Result<()> {
     out.flush()
 }
 
-fn main(rt: HostRuntime) {
-    // Where no more can be printed, or memory runs out, the list ends, with status 0.
-    let _ = print_list(&rt);
+fn main(rt: HostRuntime) -> io::Result<()> {
+    print_list(&rt)
 }

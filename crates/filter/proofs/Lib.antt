@@ -1,3 +1,3 @@
 pub mod CallLaws
-pub mod Demand3
+pub mod Guarantees
 pub mod Order

@@ -1,4 +1,5 @@
-// The tests of a filter in rising order: 1 to 3 on the shape, then 5 to 9.
+//! The tests of a filter call, in rising order of number: 1 to 3 on the shape, then 5 to 9.
+
 ghost use Rattle.std.specs.Prelude.{◌≡◌};
 ghost use Rattle.refusal.specs.Outcome.{first_due, outcome};
 ghost use Rattle.filter.specs.Calls.{memory_rules, image_rules, room_due, filter_due};
@@ -9,7 +10,7 @@ use refusal::Refusal;
 use shape::{Shape, check_buffer, check_input, check_rows, check_work};
 use std::ops::Range;
 
-// 7 and 8, where so many numbers of output and of work memory are needed.
+// Tests 7 and 8, where so many numbers of output and of work memory are needed.
 #[tactic(auto, unfolding(refusal::specs::Outcome::first_due))]
 fn check_memory(phases: usize, need: usize, output: usize, work: usize) -> Result<(), Refusal>
     ensures { outcome result ≡ first_due (memory_rules phases need output work) tt }
@@ -18,7 +19,7 @@ fn check_memory(phases: usize, need: usize, output: usize, work: usize) -> Resul
     check_work(need, work)
 }
 
-// 5 to 9, for an engine that needs so many numbers of work memory.
+// Tests 5 to 9, for an engine that needs so many numbers of work memory.
 #[tactic(auto, unfolding(refusal::specs::Outcome::first_due))]
 fn check_image(
     shape: Shape,
@@ -28,7 +29,8 @@ fn check_image(
     output: usize,
     work: usize,
 ) -> Result<(), Refusal>
-    ensures { outcome result ≡ first_due (image_rules shape need rows.now.start rows.now.end input.now output work) tt }
+    ensures { outcome result
+        ≡ first_due (image_rules shape need rows.now.start rows.now.end input.now output work) tt }
 {
     let area = shape.area();
     check_rows(shape.rows, rows)?;
@@ -37,7 +39,11 @@ fn check_image(
     check_readings(shape.cycle, input)
 }
 
-// Whether an engine filters a good image of that shape, with so much output and work memory: 1 to 3, 7, 8.
+/// Whether an engine filters every good image of a shape, with `output` numbers of output and
+/// `work` numbers of work memory.
+///
+/// Refuses the cycle (1), the size of the image (2), the mask (3), the length of the output (7),
+/// then that of the work memory (8), in this order and at place 0.
 #[tactic(auto, unfolding(refusal::specs::Outcome::first_due, crate::specs::Calls::room_due))]
 pub fn check_room(engine: Engine, shape: Shape, output: usize, work: usize) -> Result<(), Refusal>
     ensures { outcome result ≡ room_due engine shape output work }
@@ -46,7 +52,7 @@ pub fn check_room(engine: Engine, shape: Shape, output: usize, work: usize) -> R
     check_memory(shape.area(), engine.need(shape), output, work)
 }
 
-// All tests of a call of an engine.
+/// All tests of a filter call: 1 to 3 on the shape, then 5 to 9.
 #[tactic(auto, unfolding(refusal::specs::Outcome::first_due, crate::specs::Calls::filter_due))]
 pub fn check_filter(
     engine: Engine,
@@ -56,7 +62,8 @@ pub fn check_filter(
     output: usize,
     work: usize,
 ) -> Result<(), Refusal>
-    ensures { outcome result ≡ filter_due engine shape rows.now.start rows.now.end input.now output work }
+    ensures { outcome result
+        ≡ filter_due engine shape rows.now.start rows.now.end input.now output work }
 {
     engine.check(shape)?;
     check_image(shape, engine.need(shape), rows, input, output, work)

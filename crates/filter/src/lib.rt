@@ -1,14 +1,15 @@
-// The filter calls of document 01: each tests everything before it touches anything, filters the rows of
-// its range, and leaves the needed work memory zero. The two engines differ in the cycles that they take,
-// in the work memory that they need and in speed; they write the same rows.
+//! The filter: two engines over one definition. A call tests everything before it writes, filters
+//! the rows of its range, and sets the work memory that it needs to 0. The engines take different
+//! cycles and different work memory, and differ in speed; they write the same numbers.
+//! SPECIFICATION, "Filters".
 #![tactic(auto)]
 
 mod checks;
 
 ghost use Rattle.std.specs.Prelude.{◌≡◌, length};
-ghost use Rattle.refusal.specs.Outcome.{first_due, outcome, Clear};
+ghost use Rattle.refusal.specs.Outcome.{first_due, outcome, IsClear};
 ghost use Rattle.shape.specs.Rules.{shape_rules};
-ghost use Rattle.lines.specs.Rows.{Fillable, Filled};
+ghost use Rattle.lines.specs.Rows.{IsFillable, IsFilled};
 ghost use Rattle.filter.specs.declared.Engine.TheVariants.{Level, Reading};
 ghost use Rattle.filter.specs.Calls.{limit, need, FilterCall};
 
@@ -20,15 +21,17 @@ use refusal::limits::{LEVEL_CYCLE, LONGEST_CYCLE};
 use shape::Shape;
 use std::ops::Range;
 
-// The two engines are told apart in this type's methods, and `sheet` chooses one by the record.
+/// An engine of the filter. SPECIFICATION, "Engines".
 #[derive(Clone, Copy, Debug, PartialEq, Eq)]
 pub enum Engine {
+    /// Weighs every tick of the cycle; takes cycles up to 4,096 ticks.
     Level,
+    /// Weighs the readings of the window; takes every cycle, up to 65,535 ticks.
     Reading,
 }
 
 impl Engine {
-    // The longest cycle that the engine takes.
+    /// The longest cycle that the engine takes, in ticks.
     pub fn limit(self) -> u32
         ensures { result ≡ limit self }
     {
@@ -45,9 +48,9 @@ impl Engine {
         shape.check(self.limit())
     }
 
-    // The numbers of work memory that it needs, of a shape that has passed its tests.
+    // The numbers of work memory that the engine needs, for a shape that has passed its tests.
     fn need(self, shape: Shape) -> usize
-        requires { Clear (shape_rules (limit self) shape) }
+        requires { IsClear (shape_rules (limit self) shape) }
         ensures { result ≡ need self shape }
     {
         match self {
@@ -56,10 +59,12 @@ impl Engine {
         }
     }
 
-    // The rows of a range, each at its own spot of the output.
+    // Filters the rows of a range, each at its own place in the output.
     fn fill(self, image: &Image, rows: Range<usize>, output: &mut [u16], work: &mut [u32])
-        requires { Fillable (limit self) (need self) image.now.shape image.now.readings.now rows.start rows.end (length output.old) (length work.old) }
-        ensures { Filled (need self) image.now.shape image.now.readings.now rows.start rows.end output.old output.new work.old work.new }
+        requires { IsFillable (limit self) (need self) image.now.shape image.now.readings.now
+            rows.start rows.end (length output.old) (length work.old) }
+        ensures { IsFilled (need self) image.now.shape image.now.readings.now rows.start rows.end
+            output.old output.new work.old work.new }
     {
         match self {
             Engine::Level => level::rows::fill(image, rows, output, work),
@@ -68,7 +73,27 @@ impl Engine {
     }
 }
 
-// The rows of a range are written by an engine, each at its own spot of the whole image.
+/// Filters rows of an image by an engine.
+///
+/// - `shape`: the cycle in ticks, the labels of the image as rows, its wakes as columns, and the
+///   sides of the mask.
+/// - `rows`: the rows from `start` up to `end`, without `end`; none if the two are equal.
+/// - `input`: the image row by row, exactly `rows * columns` readings, each a tick, or 65,535 where
+///   a wake was silent.
+/// - `output`: at least `rows * columns` numbers.
+/// - `work`: at least `cycle * (columns + 1)` numbers for the level engine, and
+///   `mask_rows * mask_columns * (columns + 1)` for the reading engine.
+///
+/// Refuses the cycle (1), the size of the image (2), the mask (3), the range of rows (5), the
+/// length of the input (6), the length of the output (7), the length of the work memory (8), then a
+/// reading that is neither a tick nor silent (9), in this order. The place of 9 is the index of the
+/// first such reading in the image; every other place is 0. All of the image is tested, whatever
+/// the rows.
+///
+/// Accepted: row i of the range stands in `output` from `i * columns` on, each number the chosen
+/// phase of its window, or 65,535 where nothing in it is heard; the needed numbers of `work` are 0,
+/// also if the range is empty. All else in both is as before, and what they held before makes no
+/// difference. Refused: both are as before.
 pub fn run(
     engine: Engine,
     shape: Shape,
@@ -77,7 +102,8 @@ pub fn run(
     output: &mut [u16],
     work: &mut [u32],
 ) -> Result<(), Refusal>
-    ensures { FilterCall engine shape rows.start rows.end input.now output.old work.old result output.new work.new }
+    ensures { FilterCall engine shape rows.start rows.end input.now output.old work.old result
+        output.new work.new }
 {
     check_filter(engine, shape, &rows, input, output.len(), work.len())?;
     let image = Image {
@@ -90,8 +116,8 @@ pub fn run(
     Ok(())
 }
 
-// The level engine: cycles up to 4,096, and C·(N + 1) numbers of work memory. The paper has a call for each engine, and
-// `run` is both.
+/// Filters rows of an image by the level engine: `run` with `Engine::Level`. It takes cycles up to
+/// 4,096 ticks and needs `cycle * (columns + 1)` numbers of work memory.
 pub fn level(
     shape: Shape,
     rows: Range<u32>,
@@ -99,12 +125,14 @@ pub fn level(
     output: &mut [u16],
     work: &mut [u32],
 ) -> Result<(), Refusal>
-    ensures { FilterCall Level shape rows.start rows.end input.now output.old work.old result output.new work.new }
+    ensures { FilterCall Level shape rows.start rows.end input.now output.old work.old result
+        output.new work.new }
 {
     run(Engine::Level, shape, rows, input, output, work)
 }
 
-// The reading engine: every cycle, and R·T·(N + 1) numbers of work memory.
+/// Filters rows of an image by the reading engine: `run` with `Engine::Reading`. It takes every
+/// cycle and needs `mask_rows * mask_columns * (columns + 1)` numbers of work memory.
 pub fn reading(
     shape: Shape,
     rows: Range<u32>,
@@ -112,7 +140,8 @@ pub fn reading(
     output: &mut [u16],
     work: &mut [u32],
 ) -> Result<(), Refusal>
-    ensures { FilterCall Reading shape rows.start rows.end input.now output.old work.old result output.new work.new }
+    ensures { FilterCall Reading shape rows.start rows.end input.now output.old work.old result
+        output.new work.new }
 {
     run(Engine::Reading, shape, rows, input, output, work)
 }

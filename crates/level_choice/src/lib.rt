@@ -1,19 +1,20 @@
-// The level engine's choice among the ticks (document 000, section 4): of those with the least sum the
-// nearest to the centre, ahead before behind. Where neighbours agree, a few steps outward meet it. Else
-// one packed pass counts the ticks with the least sum and adds up their places: if there is only one,
-// that sum is its place. If there are several, the walk goes on. Internal: the engine meets each
-// `requires`.
+//! The level engine's choice among all ticks of the cycle: of those with the least sum the nearest
+//! to the centre, the one ahead before the one behind (SPECIFICATION, "Equals").
+//!
+//! It walks outward from the centre. Where neighbouring readings are alike, a few steps meet the
+//! tick. Else one packed pass counts the ticks with the least sum and adds up their places: if
+//! there is only one, that sum is its place. If there are several, the walk goes on. Internal: the
+//! level engine meets each `requires`.
 #![tactic(auto)]
 
-ghost use Rattle.std.specs.Prelude.{◌≡◌, ◌+◌, ◌%◌, ◌≤◌, ◌<◌, length};
+ghost use Rattle.std.specs.Prelude.{◌≡◌, ◌+◌, ◌%◌, ◌≤◌, ◌<◌, length, slice_index};
 ghost use Rattle.refusal.specs.Limits.{longest_cycle};
-ghost use Rattle.median.specs.Choice.{candidates, Chosen};
-ghost use Rattle.memory.specs.Memory.{Signed, lowest};
-ghost use Rattle.memory.specs.Parts.{held};
-ghost use Rattle.level_choice.specs.Walk.{Passed, Walked};
+ghost use Rattle.median.specs.Choice.{candidates, IsChosen};
+ghost use Rattle.sums.specs.Memory.{AreSigned, lowest};
+ghost use Rattle.level_choice.specs.Walk.{HasPassed, WalkResult};
 ghost use Rattle.level_choice.specs.Count.{if_equal, count_of, places_of};
 
-// A column's sums, one for each tick, the centre of its window, and the lowest sum.
+// The sums of a window, one for each tick, its centre, and the lowest sum.
 #[derive(Clone, Copy)]
 struct Column<'a> {
     sums: &'a [u32],
@@ -21,7 +22,7 @@ struct Column<'a> {
     least: u32,
     ghost tick: { centre < length sums.now },
     ghost limit: { length sums.now ≤ longest_cycle },
-    ghost lowest: { least ≡ lowest (held sums.now) (length sums.now) },
+    ghost lowest: { least ≡ lowest (slice_index sums.now) (length sums.now) },
 }
 
 // The ticks with the least sum: how many they are, and the sum of their places.
@@ -31,7 +32,7 @@ struct Tally {
     places: u32,
 }
 
-// The tick that lies e ahead of a, as an index; `tick_of` of reading_choice has it in 32 bits, for packed instructions.
+// The tick that lies e ahead of a.
 fn ahead_by(cycle: usize, a: usize, e: usize) -> usize
     requires tick { a < cycle }
     requires step { e ≤ cycle }
@@ -41,7 +42,7 @@ fn ahead_by(cycle: usize, a: usize, e: usize) -> usize
     if a + e < cycle { a + e } else { a + e - cycle }
 }
 
-// The number x if a sum is the least one, else 0: one `if` to a function, so that the loop packs.
+// The number x if the sum is the least one, else 0: a function of one `if`, so that its loop packs.
 fn if_equal(sum: u32, least: u32, x: u32) -> u32
     ensures { result ≡ if_equal sum least x }
 {
@@ -49,13 +50,15 @@ fn if_equal(sum: u32, least: u32, x: u32) -> u32
 }
 
 impl<'a> Column<'a> {
-    // Walks the steps from start up to end, where those before start met no tick with the least sum: the
-    // first such tick, if they meet one. From a start, since the walk goes on where it stopped before the tally.
+    // Walks outward from step `start` up to step `end`, the tick ahead before the one behind, and
+    // answers the first tick with the least sum. The steps before `start` met none.
     fn walk(&self, start: usize, end: usize) -> Option<usize>
         requires order { start ≤ end }
         requires within { end ≤ length self.now.sums.now }
-        requires passed { Passed (length self.now.sums.now) self.now.centre (held self.now.sums.now) self.now.least start }
-        ensures { Walked (length self.now.sums.now) self.now.centre (held self.now.sums.now) self.now.least end result }
+        requires passed { HasPassed (length self.now.sums.now) self.now.centre
+            (slice_index self.now.sums.now) self.now.least start }
+        ensures { WalkResult (length self.now.sums.now) self.now.centre
+            (slice_index self.now.sums.now) self.now.least end result }
     {
         let Column {
             sums,
@@ -76,10 +79,12 @@ impl<'a> Column<'a> {
         None
     }
 
-    // Tallies the ticks with the least sum: one loop without a branch, for packed instructions.
+    // Counts the ticks with the least sum and adds up their places, in one loop without a branch.
     fn tally(&self) -> Tally
-        ensures count { result.count ≡ count_of (held self.now.sums.now) self.now.least (length self.now.sums.now) }
-        ensures places { result.places ≡ places_of (held self.now.sums.now) self.now.least (length self.now.sums.now) }
+        ensures count { result.count
+            ≡ count_of (slice_index self.now.sums.now) self.now.least (length self.now.sums.now) }
+        ensures places { result.places
+            ≡ places_of (slice_index self.now.sums.now) self.now.least (length self.now.sums.now) }
     {
         let Column {
             sums,
@@ -96,27 +101,31 @@ impl<'a> Column<'a> {
     }
 }
 
-// The tick that the paper chooses by the sums of a column, of which least is the lowest. A tally costs as
-// much as many steps, so a few come first, one for each 64 ticks.
+/// The chosen tick by the sums of a window (SPECIFICATION, "Chosen phase").
+///
+/// `sums` has the sum at every tick, each below 2^31, `least` is the lowest of them, and `centre`
+/// the window's centre, or what stands in for it. A tally costs as much as many steps, so some
+/// steps come first, one for each 64 ticks of the cycle.
 pub fn choose(sums: &[u32], centre: usize, least: u32) -> usize
     requires tick { centre < length sums.now }
     requires limit { length sums.now ≤ longest_cycle }
-    requires signed { Signed (held sums.now) (length sums.now) }
-    requires least { least ≡ lowest (held sums.now) (length sums.now) }
-    ensures { Chosen (length sums.now) centre (held sums.now) (candidates (length sums.now)) result }
+    requires signed { AreSigned (slice_index sums.now) (length sums.now) }
+    requires least { least ≡ lowest (slice_index sums.now) (length sums.now) }
+    ensures { IsChosen (length sums.now) centre (slice_index sums.now)
+        (candidates (length sums.now)) result }
 {
     let column = Column {
         sums,
         centre,
         least,
     };
-    let near = sums.len() / 64 + 1;
-    if let Some(tick) = column.walk(0, near) {
+    let first_steps = sums.len() / 64 + 1;
+    if let Some(tick) = column.walk(0, first_steps) {
         return tick;
     }
     let tally = column.tally();
     if tally.count == 1 {
         return tally.places as usize;
     }
-    column.walk(near, sums.len()).unwrap()
+    column.walk(first_steps, sums.len()).unwrap()
 }

@@ -1,4 +1,4 @@
--- The columns of a row, one after the other: one of them changed, and what is read of them. Assumes nothing.
+-- The columns of a row, one after the other in memory: one of them changed, and one of them lent.
 use Prim.Native.Nat.{ℕ, ◌+◌, ◌-◌, ◌*◌, ◌≤◌, ◌<◌}
 use mathlib.Core.Path.{◌≡◌, ap, sym, ◌∙◌}
 use mathlib.Core.List.{List}
@@ -8,12 +8,13 @@ use borrow.Rule.Slice.PartMut.{put_mid}
 use lib.ListN.{length, get_or, take, drop, length-take, length-drop}
 use lib.Seq.{get_or-take}
 use Rattle.lists.proofs.Parts.{part_end}
-use Rattle.memory.specs.Memory.{Changed}
-use Rattle.memory.proofs.Memory.{changed_part, part-reads}
+use Rattle.sums.specs.Memory.{Changed}
+use Rattle.sums.proofs.Memory.{changed_part, part-reads}
 use Rattle.lines.specs.declared.image.Image.{Image}
-use Rattle.level_sums.specs.Sums.{ColumnSums, RowSums, RowChange, Descent, window_sum}
+use Rattle.level_sums.specs.Sums.{HoldsColumnSums, HoldsRowSums, HoldsRowChange, IsDescending}
+use Rattle.level_sums.specs.Sums.{window_sum}
 
--- the column before column j ends where that begins
+-- the column before column j ends where column j begins
 pub before_ends : (j c : ℕ) → (j ≡ 0 → ⊥) → (j - 1) * c + c ≡ j * c
 before_ends j c some =
     let e : j - 1 + 1 ≡ j = omega arith in
@@ -21,46 +22,59 @@ before_ends j c some =
     step ∙ ap (λ (x : ℕ). x * c) e
 
 module _ (image : Image) (i j : ℕ) where
+  -- the ticks of the cycle, which are the numbers of a column
   abbrev c : ℕ
   c = image.shape.cycle
 
-  -- column j, which was lent, has come back with the sums of row i
-  pub column_changed : {w part : List ℕ} {k : ℕ} → j * c + c ≤ length w → k ≡ c → ColumnSums image i j part
-      → Changed w (put_mid (j * c) k w part) (j * c) c (window_sum image.shape image.readings.now i j)
+  -- column j was lent, and has come back with the sums of row i
+  pub column_changed : {w part : List ℕ} {k : ℕ} → j * c + c ≤ length w → k ≡ c
+      → HoldsColumnSums image i j part
+      → Changed w (put_mid (j * c) k w part) (j * c) c
+      (window_sum image.shape image.readings.now i j)
   column_changed {w} {part} {k} room e t =
-      changed_part part room e (t.len ∙ sym (simp (length-take, length-drop) (omega arith))) (λ q h. t.holds q (omega (arith, t.len)))
+      changed_part part room e (t.len ∙ sym (simp (length-take, length-drop) (omega arith)))
+      (λ q h. t.holds q (omega (arith, t.len)))
 
-  -- it joins the columns before it
-  pub row_more : {w w' : List ℕ} → RowSums image i w 0 j → Changed w w' (j * c) c (window_sum image.shape image.readings.now i j) → RowSums image i w' 0 (j + 1)
+  -- with column j the columns up to j + 1 have the sums of row i
+  pub row_more : {w w' : List ℕ} → HoldsRowSums image i w 0 j → Changed w w' (j * c) c
+      (window_sum image.shape image.readings.now i j) → HoldsRowSums image i w' 0 (j + 1)
   row_more {w} {w'} r x l a b q h = go (ℕ_discrete l j)
     where
       go : Dec (l ≡ j) → get_or w' (l * c + q) 0 ≡ window_sum image.shape image.readings.now i l q
       go (yes d) = rw d (x.holds q h)
-      go (no d) = x.before (l * c + q) (omega (arith, part_end l j c (omega arith))) ∙ r l (omega arith) (omega arith) q h
+      go (no d) = x.before (l * c + q) (omega (arith, part_end l j c (omega arith)))
+          ∙ r l (omega arith) (omega arith) q h
 
-  -- the columns after it are as they were
-  pub row_rest : {w w' : List ℕ} {m : ℕ} {f : ℕ → ℕ} → RowSums image i w j m → Changed w w' (j * c) c f → RowSums image i w' (j + 1) m
-  row_rest r x l a b q h = x.after (l * c + q) (omega (arith, part_end j l c (omega arith))) ∙ r l (omega arith) b q h
+  -- a change of column j leaves the columns after it as they were
+  pub row_rest : {w w' : List ℕ} {m : ℕ} {f : ℕ → ℕ} → HoldsRowSums image i w j m
+      → Changed w w' (j * c) c f → HoldsRowSums image i w' (j + 1) m
+  row_rest r x l a b q h =
+      x.after (l * c + q) (omega (arith, part_end j l c (omega arith))) ∙ r l (omega arith) b q h
 
-  -- column j as it is lent
-  pub column_lent : (w : List ℕ) {a b k : ℕ} → RowSums image i w a b → a ≤ j → j < b → j * c + c ≤ length w → k ≡ c → ColumnSums image i j (take k (drop (j * c) w))
+  -- column j as it is lent has its sums
+  pub column_lent : (w : List ℕ) {a b k : ℕ} → HoldsRowSums image i w a b → a ≤ j → j < b
+      → j * c + c ≤ length w → k ≡ c → HoldsColumnSums image i j (take k (drop (j * c) w))
   column_lent w {k = k} r first last room e = record {
     len = simp (length-take, length-drop) (omega arith);
     holds = λ q h. part-reads w (j * c) k q (omega arith) ∙ r j first last q h;
   }
 
-  -- a column of the front that has been split off
-  pub column_reads : (w : List ℕ) {a b k : ℕ} → RowSums image i w a b → a ≤ j → j < b → {m : ℕ} → j * c + c ≤ m → m ≤ length w → k ≡ c
-      → ColumnSums image i j (take k (drop (j * c) (take m w)))
+  -- column j as it is lent from a front that was split off has its sums
+  pub column_reads : (w : List ℕ) {a b k : ℕ} → HoldsRowSums image i w a b → a ≤ j → j < b → {m : ℕ}
+      → j * c + c ≤ m → m ≤ length w → k ≡ c
+      → HoldsColumnSums image i j (take k (drop (j * c) (take m w)))
   column_reads w {a} {b} {k} r first last {m} room within e = record {
     len = simp (length-take, length-drop) (omega arith);
-    holds = λ q h. part-reads (take m w) (j * c) k q (omega arith) ∙ get_or-take m w (j * c + q) 0 (omega arith) ∙ r j first last q h;
+    holds = λ q h. part-reads (take m w) (j * c) k q (omega arith)
+        ∙ get_or-take m w (j * c + q) 0 (omega arith) ∙ r j first last q h;
   }
 
--- column j has moved down, with the differences at it
-pub descended : (image : Image) (i j : ℕ) {w w' change change' : List ℕ} → Descent image i j w change
-    → Changed w w' (j * image.shape.cycle) image.shape.cycle (window_sum image.shape image.readings.now (i + 1) j) → RowChange image i j change'
-    → Descent image i (j + 1) w' change'
+-- column j has moved down, and `change` has the differences at it
+pub descended : (image : Image) (i j : ℕ) {w w' change change' : List ℕ}
+    → IsDescending image i j w change
+    → Changed w w' (j * image.shape.cycle) image.shape.cycle
+    (window_sum image.shape image.readings.now (i + 1) j) → HoldsRowChange image i j change'
+    → IsDescending image i (j + 1) w' change'
 descended image i j d x t = record {
   room = x.len ∙ d.room;
   ticks = t.len;

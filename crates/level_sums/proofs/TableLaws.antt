@@ -1,5 +1,5 @@
--- The table's part for a reading holds what the reading adds to the sums at all ticks: its distance, or nothing if it is silent. Assumes
--- nothing.
+-- The table's part for a reading is what the reading adds to the sum at each tick: its distance, or
+-- 0 if it is silent. The loop that fills the table.
 use Prim.Native.Nat.{ℕ, zero, suc, ◌+◌, ◌-◌, ◌*◌, ◌%◌, ◌^◌, ◌≤◌, ◌<◌}
 use mathlib.Core.Path.{◌≡◌, refl, ap, sym, ◌∙◌}
 use mathlib.Core.List.{List}
@@ -17,11 +17,11 @@ use Rattle.cycle.proofs.DistanceLaws.{distance_half, distance_symmetric}
 use Rattle.cycle.proofs.Ways.{ahead_way, distance_way}
 use Rattle.cycle.proofs.Ways.Way.{straight}
 use Rattle.median.proofs.Sum.{share-heard, share-none}
-use Rattle.level_sums.specs.Table.{Table, table_length, PartOf}
+use Rattle.level_sums.specs.Table.{IsTable, table_length, IsPartOf}
 
--- the distance of q and y is that of the way from y to q and tick 0
-turn_back : (c y q : ℕ) → y < c → q < c → distance c (ahead c y q) 0 ≡ distance c q y
-turn_back c y q h g =
+-- tick q is as far from y as the tick (q - y) modulo c is from tick 0
+distance-ahead : (c y q : ℕ) → y < c → q < c → distance c (ahead c y q) 0 ≡ distance c q y
+distance-ahead c y q h g =
     let r = ahead_way c y q h g in
     let e = ahead c y q in
     distance_symmetric c e 0
@@ -30,35 +30,40 @@ turn_back c y q h g =
     ∙ distance_symmetric c y q
 
 module _ {c : ℕ} (fits : c ≤ level_cycle) where
-  -- the part for a tick
-  pub part-tick : {y start : ℕ} → y < c → start ≡ c - y → PartOf c y start
+  -- the part for a tick y starts at place c - y
+  pub part-tick : {y start : ℕ} → y < c → start ≡ c - y → IsPartOf c y start
   unfolding ahead
   part-tick {y} {start} h e table t = record {
     room = omega (arith, t.len);
-    shares = λ q g. rw (e, share-heard c q y (tick-heard c q (omega arith) g) (tick-heard c y (omega arith) h))
-        (t.holds (c - y + q) (omega arith) ∙ ap (λ (x : ℕ). distance c (x % c) 0) (add_comm (c - y) q) ∙ turn_back c y q h g);
+    shares = λ q g. rw
+        (e, share-heard c q y (tick-heard c q (omega arith) g) (tick-heard c y (omega arith) h))
+        (t.holds (c - y + q) (omega arith)
+        ∙ ap (λ (x : ℕ). distance c (x % c) 0) (add_comm (c - y) q) ∙ distance-ahead c y q h g);
   }
 
-  -- the part for a silent reading
-  pub part-silent : {y start : ℕ} → y ≡ silent → start ≡ 2 * c → PartOf c y start
+  -- the part for a silent reading starts at place 2 c
+  pub part-silent : {y start : ℕ} → y ≡ silent → start ≡ 2 * c → IsPartOf c y start
   part-silent {y} {start} d e table t = record {
     room = omega (arith, t.len);
-    shares = λ q g. rw (share-none c q y (tick-heard c q (omega arith) g) d) (t.zeros (start + q) (omega arith));
+    shares = λ q g. rw (share-none c q y (tick-heard c q (omega arith) g) d)
+        (t.zeros (start + q) (omega arith));
   }
 
--- a loop has filled the table up to k
-pub record Filling (c : ℕ) (table : List ℕ) (k : ℕ) : Type 0 where
+-- the table is filled up to place k, and zero from there on
+pub record IsFilledTo (c : ℕ) (table : List ℕ) (k : ℕ) : Type 0 where
   pub len : length table ≡ table_length
   pub holds : (l : ℕ) → l < k → get_or table l 0 ≡ distance c (l % c) 0
   pub zeros : (l : ℕ) → k ≤ l → get_or table l 0 ≡ 0
   pub small : (l : ℕ) → get_or table l 0 < 2 ^ 16
 
+-- a list of zeros has 0 at every place
 zero_at : (n k : ℕ) → ◌≡◌ {A = ℕ} (get_or (replicate n 0) k 0) 0
 zero_at zero k = refl
 zero_at (suc n) zero = refl
 zero_at (suc n) (suc k) = zero_at n k
 
-pub filling-none : {c : ℕ} → Filling c (replicate table_length 0) 0
+-- a table of zeros is filled up to place 0
+pub filling-none : {c : ℕ} → IsFilledTo c (replicate table_length 0) 0
 filling-none = record {
   len = length-replicate {A = ℕ} table_length 0;
   holds = λ l h. absurd (omega arith);
@@ -66,8 +71,10 @@ filling-none = record {
   small = λ l. omega (arith, zero_at table_length l);
 }
 
-pub filling_turn : {c : ℕ} {table : List ℕ} {k v : ℕ} → Filling c table k → k < table_length → 0 < c → c ≤ level_cycle → v ≡ distance c (k % c) 0
-    → Filling c (set table k v) (k + 1)
+-- one place more
+pub filling_turn : {c : ℕ} {table : List ℕ} {k v : ℕ} → IsFilledTo c table k → k < table_length → 0 < c
+    → c ≤ level_cycle → v ≡ distance c (k % c) 0
+    → IsFilledTo c (set table k v) (k + 1)
 filling_turn {c} {table} {k} {v} f h some g e = record {
   len = length-set table k v ∙ f.len;
   holds = λ l i. new l i (ℕ_discrete l k);
@@ -83,8 +90,16 @@ filling_turn {c} {table} {k} {v} f h some g e = record {
     v_small = omega (arith, e, distance_half c (k % c) 0 (mod-lt k some) some)
 
     all : (l : ℕ) → Dec (l ≡ k) → get_or (set table k v) l 0 < 2 ^ 16
-    all l (yes d) = rw d (omega (arith, v_small, get_or-set_same table k v 0 (omega (arith, f.len))))
+    all l (yes d) =
+        rw d (omega (arith, v_small, get_or-set_same table k v 0 (omega (arith, f.len))))
     all l (no d) = omega (arith, get_or-set_other table k l v 0 d, f.small l)
 
-pub filling_all : {c : ℕ} {table : List ℕ} {k : ℕ} → Filling c table k → k ≡ 2 * c → Table c table
-filling_all f e = record { len = f.len; holds = λ l i. f.holds l (omega arith); zeros = λ l i. f.zeros l (omega arith); small = f.small }
+-- filled up to place 2 c, it is the table of the cycle
+pub filling_all : {c : ℕ} {table : List ℕ} {k : ℕ} → IsFilledTo c table k → k ≡ 2 * c → IsTable c table
+filling_all f e = record {
+  len = f.len;
+  holds = λ l i. f.holds l (omega arith);
+  zeros =
+      λ l i. f.zeros l (omega arith);
+  small = f.small;
+}

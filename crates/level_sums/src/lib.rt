@@ -1,7 +1,10 @@
-// The sums of the level engine (document 000, section 4): the table of distances, and the sum at every
-// tick for the columns of a row in lent memory, set up afresh or moved down by a row with the differences
-// between the two rows, modulo 2^32. A silent reading adds to no sum (document 02, T-01): its part of the
-// table is zeros. Internal: the tests are the caller's.
+//! The sums of the level engine, after Storath and Weinmann, section 4: for each column of a row,
+//! the sum at every tick of the cycle (SPECIFICATION, "Sum").
+//!
+//! `table` has the distances that readings add to sums, with zeros for a silent reading, and
+//! `source` joins them with the image. `row` sets the sums of a row up afresh; `step` moves them
+//! down to the next row by the differences between the two rows, which are held modulo 2^32.
+//! Internal: the level engine has an image that has passed its tests, and meets each `requires`.
 #![tactic(auto)]
 
 pub mod row;

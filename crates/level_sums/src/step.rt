@@ -1,23 +1,28 @@
-// The sums of a row's columns moved down to the next row, by the differences between the two.
+//! The sums of a row's columns moved down to the next row, by the differences between the two.
+
 ghost use Rattle.std.specs.Prelude.{◌≡◌, ◌+◌, ◌<◌};
-ghost use Rattle.level_sums.specs.Sums.{IsColumn, ColumnSums, RowChange, Descent, lowest_sum};
+ghost use Rattle.level_sums.specs.Sums.{IsColumn, HoldsColumnSums, HoldsRowChange, IsDescending};
+ghost use Rattle.level_sums.specs.Sums.{lowest_sum};
 
 use crate::source::Source;
-use memory::{add, lowest_of, swap, turn};
+use sums::{add, lowest_of, move_sums, swap};
 
-// The step from row i to row i + 1.
+/// The step from row i of an image to row i + 1.
 #[derive(Clone, Copy)]
 pub struct Step<'a> {
+    /// The image, with its table of distances.
     pub source: Source<'a>,
+    /// The index of the upper row.
     pub i: usize,
+    /// The image has the lower row.
     pub ghost next: { i + 1 < source.image.shape.rows },
 }
 
 impl<'a> Step<'a> {
-    // The differences between row i + 1 and row i, at column 0.
+    // The differences between row i + 1 and row i at column 0, one for each tick.
     fn first_change(&self, change: &mut [u32])
         requires { IsColumn self.now.source.image change.old }
-        ensures { RowChange self.now.source.image self.now.i 0 change.new }
+        ensures { HoldsRowChange self.now.source.image self.now.i 0 change.new }
     {
         let below = self.i + self.source.image.shape.mask_rows as usize;
         change.fill(0);
@@ -28,12 +33,12 @@ impl<'a> Step<'a> {
         }
     }
 
-    // The sums of column 0 of row i + 1, from those of row i. The lowest of them.
+    // The sums of column 0 of row i + 1, from those of row i; answers the lowest of them.
     fn start_row(&self, sums: &mut [u32], change: &mut [u32]) -> u32
         requires ticks { IsColumn self.now.source.image change.old }
-        requires column { ColumnSums self.now.source.image self.now.i 0 sums.old }
-        ensures differences { RowChange self.now.source.image self.now.i 0 change.new }
-        ensures column { ColumnSums self.now.source.image (self.now.i + 1) 0 sums.new }
+        requires column { HoldsColumnSums self.now.source.image self.now.i 0 sums.old }
+        ensures differences { HoldsRowChange self.now.source.image self.now.i 0 change.new }
+        ensures column { HoldsColumnSums self.now.source.image (self.now.i + 1) 0 sums.new }
         ensures lowest { result ≡ lowest_sum self.now.source.image (self.now.i + 1) 0 }
     {
         self.first_change(change);
@@ -41,13 +46,14 @@ impl<'a> Step<'a> {
         lowest_of(sums)
     }
 
-    // The sums of column j + 1 of row i + 1, from those of row i and the differences at column j. The lowest of them.
+    // The sums of column j + 1 of row i + 1, from those of row i and the differences at column j;
+    // answers the lowest of them.
     fn advance(&self, j: usize, sums: &mut [u32], change: &mut [u32]) -> u32
         requires next_column { j + 1 < self.now.source.image.shape.columns }
-        requires differences { RowChange self.now.source.image self.now.i j change.old }
-        requires column { ColumnSums self.now.source.image self.now.i (j + 1) sums.old }
-        ensures differences { RowChange self.now.source.image self.now.i (j + 1) change.new }
-        ensures column { ColumnSums self.now.source.image (self.now.i + 1) (j + 1) sums.new }
+        requires differences { HoldsRowChange self.now.source.image self.now.i j change.old }
+        requires column { HoldsColumnSums self.now.source.image self.now.i (j + 1) sums.old }
+        ensures differences { HoldsRowChange self.now.source.image self.now.i (j + 1) change.new }
+        ensures column { HoldsColumnSums self.now.source.image (self.now.i + 1) (j + 1) sums.new }
         ensures lowest { result ≡ lowest_sum self.now.source.image (self.now.i + 1) (j + 1) }
     {
         let below = self.i + self.source.image.shape.mask_rows as usize;
@@ -56,14 +62,18 @@ impl<'a> Step<'a> {
         let second_in = self.source.part_at(self.i, j);
         let first_out = self.source.part_at(below, j);
         let second_out = self.source.part_at(self.i, ahead);
-        turn(sums, change, first_in, second_in, first_out, second_out)
+        move_sums(sums, change, first_in, second_in, first_out, second_out)
     }
 
-    // The sums of column j of row i + 1, from those of row i. The lowest of them.
+    /// Moves the sums of column j from row i to row i + 1, where the columns before it have been
+    /// moved, and answers the lowest of the new ones.
+    ///
+    /// `sums` has C numbers for each column of the image. `change` has the C differences between
+    /// the two rows at the column before, and then those at column j; for column 0 they are set up.
     pub fn move_down(&self, j: usize, sums: &mut [u32], change: &mut [u32]) -> u32
         requires image_column { j < self.now.source.image.shape.columns }
-        requires before { Descent self.now.source.image self.now.i j sums.old change.old }
-        ensures after { Descent self.now.source.image self.now.i (j + 1) sums.new change.new }
+        requires before { IsDescending self.now.source.image self.now.i j sums.old change.old }
+        ensures after { IsDescending self.now.source.image self.now.i (j + 1) sums.new change.new }
         ensures lowest { result ≡ lowest_sum self.now.source.image (self.now.i + 1) j }
     {
         let cycle = self.source.image.shape.cycle as usize;

@@ -1,12 +1,14 @@
--- An image that has passed the tests of one limit has passed those of a wider one. Assumes nothing.
+-- An image that has passed the tests for one limit of the cycle.
 use Prim.Native.Nat.{ℕ, ◌≤◌}
 use mathlib.Core.List.{List}
 use native.Mathlib.Omega.{arith}
 use borrow.Author.Tests.{ltb-false, le-ltb}
 use Rattle.shape.specs.declared.Shape.{Shape}
-use Rattle.window.specs.Ready.{Ready}
+use Rattle.window.specs.Ready.{IsReady}
 
-pub ready_wider : {a b : ℕ} {s : Shape} {image : List ℕ} → a ≤ b → Ready a s image → Ready b s image
+-- it has passed those for a higher limit too
+pub ready_wider : {a b : ℕ} {s : Shape} {image : List ℕ} → a ≤ b → IsReady a s image
+    → IsReady b s image
 ready_wider {a} {b} {s} wider r =
     let k = r.shape in
     let fits = ltb-false a s.cycle k.1.0 in

@@ -8,3 +8,5 @@ pub mod Calls
 pub mod Order
 pub mod Pushes
 pub mod Row
+pub mod Choosing
+pub mod Passes

@@ -1,3 +1,4 @@
 pub mod Window
 pub mod Calls
 pub mod Pushes
+pub mod Passes

@@ -1,4 +1,5 @@
-// The tests of the live window's calls, each the first refusal that is due.
+//! The tests of the live window's calls.
+
 ghost use Rattle.std.specs.Prelude.{◌≡◌};
 ghost use Rattle.refusal.specs.Outcome.{first_due, outcome};
 ghost use Rattle.live.specs.Calls.{window_rules, push_rules};
@@ -8,7 +9,7 @@ use refusal::Refusal;
 use refusal::limits::{LIVE_CYCLE, LIVE_LENGTH};
 use shape::check_side;
 
-// Tests 1 and 3, of a window.
+/// Tests 1 and 3 of a window: its cycle in ticks, then its length in readings.
 #[tactic(auto, unfolding(refusal::specs::Outcome::first_due))]
 pub fn check_window(cycle: u32, length: u32) -> Result<(), Refusal>
     ensures { outcome result ≡ first_due (window_rules cycle length) tt }
@@ -17,7 +18,7 @@ pub fn check_window(cycle: u32, length: u32) -> Result<(), Refusal>
     check_side(length, LIVE_LENGTH)
 }
 
-// The tests of a push, on the window's own numbers and on the reading.
+/// The tests of a push: 1 and 3 of the window, then 9 of the reading.
 #[tactic(auto, unfolding(refusal::specs::Outcome::first_due))]
 pub fn check_push(cycle: u32, length: u32, reading: u16) -> Result<(), Refusal>
     ensures { outcome result ≡ first_due (push_rules cycle length reading) tt }

@@ -1,1 +1,3 @@
-pub mod Kept
+pub mod Carried
+pub mod RowWeighing
+pub mod Sweeping

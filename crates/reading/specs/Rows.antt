@@ -1,10 +1,11 @@
--- What the rows of the reading engine are given. Internal to the engine.
+-- What a row of the reading engine takes over from the row above. Internal to the engine.
 use Rattle.std.specs.Prelude.{ℕ, ◌+◌, ◌-◌, ◌<◌, List}
 use Rattle.shape.specs.declared.Shape.{Shape}
-use Rattle.reading_planes.specs.Sums.{MaskSums}
+use Rattle.reading_sums.specs.Sums.{HoldsMaskSums}
 
--- the first `kept` mask rows of row i have their sums from the row before it
-pub record Kept (s : Shape) (image : List ℕ) (i kept : ℕ) (w : List ℕ) : Type 0 where
-  pub some_left : kept < s.mask_rows
-  pub begun : 0 < kept → 0 < i
-  pub sums : MaskSums s image (i - 1) w i (i + kept)
+-- the first `carried_rows` mask rows of row i, which are not all of them, have the sums of the row
+-- above
+pub record IsCarried (s : Shape) (image : List ℕ) (i carried_rows : ℕ) (w : List ℕ) : Type 0 where
+  pub some_left : carried_rows < s.mask_rows
+  pub begun : 0 < carried_rows → 0 < i
+  pub sums : HoldsMaskSums s image (i - 1) w i (i + carried_rows)

@@ -1,3 +1,9 @@
 pub mod Measured
 pub mod SweepAhead
 pub mod Turns
+pub mod Listed
+pub mod Marks
+pub mod StepLaws
+pub mod Ring
+pub mod Sums
+pub mod Sweeps

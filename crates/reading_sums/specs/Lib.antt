@@ -1,1 +1,5 @@
 pub mod CarryLines
+pub mod Listed
+pub mod Passes
+pub mod Planes
+pub mod Sums

@@ -1,30 +1,38 @@
-// Planes built afresh, from every row under the mask.
+//! Planes built afresh, from every row of the windows.
+
 ghost use Rattle.std.specs.Prelude.{◌≡◌, ◌+◌, ◌-◌, ◌<◌, length};
-ghost use Rattle.memory.specs.Memory.{Each};
-ghost use Rattle.lines.specs.Lines.{Reads, PaddedLine};
-ghost use Rattle.reading_planes.specs.Planes.{of_rows, none, marked, counted, Behind, Fronts, planes_length, gained};
+ghost use Rattle.sums.specs.Memory.{Tabulates};
+ghost use Rattle.lines.specs.Lines.{HoldsReadings, IsPaddedLine};
+ghost use Rattle.reading_sums.specs.Planes.{of_rows, no_gain, mark_at, counted_change};
+ghost use Rattle.reading_sums.specs.Planes.{IsSweptBehind, HoldsSumsAhead, planes_length};
+ghost use Rattle.reading_sums.specs.Planes.{gained_sum};
 
 use crate::Changes;
+use crate::passes::{begin, distances, distances_to_two, grow};
 use lines::{Image, Line};
 use median::is_short;
-use memory::add;
-use reading_lines::{begin, distances, distances_to_two, grow};
+use sums::add;
 
-// A line whose planes are built in row i. `last` is the last row of its windows.
+/// A line whose planes are built, for the windows of row i.
 #[derive(Clone, Copy)]
 pub struct Built<'a> {
+    /// The image.
     pub image: Image<'a>,
+    /// The index of the row.
     pub i: usize,
+    /// The line of the readings at which the sums are made.
     pub own: &'a Line,
+    /// The line of the last row of the windows.
     pub last: &'a Line,
     ghost inside: { i < image.shape.rows },
-    ghost own_reads: { Reads image.shape own.now },
-    ghost last_row: { PaddedLine image.shape image.readings.now (i + image.shape.mask_rows - 1) last.now },
+    ghost own_reads: { HoldsReadings image.shape own.now },
+    ghost last_row: { IsPaddedLine image.shape image.readings.now (i + image.shape.mask_rows - 1) last.now },
 }
 
 impl<'a> Built<'a> {
-    // Counts, over all mask rows, the columns from `at` on at the places from `start` on: two rows at a time,
-    // and the last one alone, since the mask rows are odd in number. `row` and `other` are memory for lines, padded within: so places, no parts.
+    // Counts in `changes`, those of the places from `start` on, the columns from `at` on, one each,
+    // over all rows of the windows: two rows at a time, which share a pass over the changes, and
+    // the last one alone, since the rows are odd in number. `gains`, `row` and `other` are memory.
     fn count(
         &self,
         start: usize,
@@ -35,9 +43,11 @@ impl<'a> Built<'a> {
         other: &mut Line,
     )
         requires offset { start + at < self.now.image.shape.mask_columns }
-        requires rest_of_line { length changes.old ≡ self.now.image.shape.columns + (self.now.image.shape.mask_columns - 1 - (start + at)) }
-        ensures { Each changes.new
-            (counted (of_rows self.now.image.shape self.now.image.readings.now self.now.i self.now.own.now) none start at changes.old) }
+        requires rest_of_line { length changes.old ≡ self.now.image.shape.columns
+            + (self.now.image.shape.mask_columns - 1 - (start + at)) }
+        ensures { Tabulates changes.new
+            (counted_change (of_rows self.now.image.shape self.now.image.readings.now self.now.i
+            self.now.own.now) no_gain start at changes.old) }
     {
         let Built {
             image,
@@ -72,7 +82,11 @@ impl<'a> Built<'a> {
         grow(changes, &gains[..n]);
     }
 
-    // The sweep ahead, over every plane.
+    /// The sweep ahead: each number of `planes`, the T·N of the line, becomes its mark with the
+    /// columns from its place on counted.
+    ///
+    /// `changes` is left as the sweep behind begins: zeros. `gains`, `row` and `other` are memory
+    /// for lines.
     pub fn ahead(
         &self,
         planes: &mut [u32],
@@ -82,10 +96,12 @@ impl<'a> Built<'a> {
         other: &mut Line,
     )
         requires { length planes.old ≡ planes_length self.now.image.shape }
-        ensures fronts { Fronts self.now.image.shape planes.new (marked self.now.own.now)
-            (of_rows self.now.image.shape self.now.image.readings.now self.now.i self.now.own.now) none 0 }
-        ensures behind { Behind self.now.image.shape
-            (of_rows self.now.image.shape self.now.image.readings.now self.now.i self.now.own.now) none changes.new 0 }
+        ensures fronts { HoldsSumsAhead self.now.image.shape planes.new (mark_at self.now.own.now)
+            (of_rows self.now.image.shape self.now.image.readings.now self.now.i self.now.own.now)
+            no_gain 0 }
+        ensures behind { IsSweptBehind self.now.image.shape
+            (of_rows self.now.image.shape self.now.image.readings.now self.now.i self.now.own.now)
+            no_gain changes.new 0 }
     {
         let columns = self.image.shape.columns as usize;
         let mask = self.image.shape.mask_columns as usize;
@@ -100,7 +116,10 @@ impl<'a> Built<'a> {
         changes[..columns + mask].fill(0);
     }
 
-    // One turn of the sweep behind: plane l, from the changes of the plane before it. By its number: the places of `own` go by it.
+    /// Turn l of the sweep behind, for l from 1: adds to each number of plane l the columns before
+    /// its place.
+    ///
+    /// `changes` is as turn l - 1 left it. `gains`, `row` and `other` are memory for lines.
     pub fn behind(
         &self,
         l: usize,
@@ -112,12 +131,15 @@ impl<'a> Built<'a> {
     )
         requires later_plane { (0 < l) × (l < self.now.image.shape.mask_columns) }
         requires one_plane { length plane.old ≡ self.now.image.shape.columns }
-        requires behind { Behind self.now.image.shape
-            (of_rows self.now.image.shape self.now.image.readings.now self.now.i self.now.own.now) none changes.old (l - 1) }
-        ensures behind_next { Behind self.now.image.shape
-            (of_rows self.now.image.shape self.now.image.readings.now self.now.i self.now.own.now) none changes.new l }
-        ensures gained { Each plane.new
-            (gained plane.old (of_rows self.now.image.shape self.now.image.readings.now self.now.i self.now.own.now) none l) }
+        requires behind { IsSweptBehind self.now.image.shape
+            (of_rows self.now.image.shape self.now.image.readings.now self.now.i self.now.own.now)
+            no_gain changes.old (l - 1) }
+        ensures behind_next { IsSweptBehind self.now.image.shape
+            (of_rows self.now.image.shape self.now.image.readings.now self.now.i self.now.own.now)
+            no_gain changes.new l }
+        ensures gained { Tabulates plane.new
+            (gained_sum plane.old (of_rows self.now.image.shape self.now.image.readings.now
+            self.now.i self.now.own.now) no_gain l) }
     {
         let columns = self.image.shape.columns as usize;
         let n = columns + self.image.shape.mask_columns as usize - 1 - l;

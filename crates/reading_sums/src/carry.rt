@@ -1,39 +1,50 @@
-// Planes carried down by a row.
+//! Planes carried down by a row.
+
 ghost use Rattle.std.specs.Prelude.{◌≡◌, ◌-◌, ◌<◌, length};
 ghost use Rattle.refusal.specs.Limits.{longest_cycle};
-ghost use Rattle.refusal.specs.Outcome.{Clear};
+ghost use Rattle.refusal.specs.Outcome.{IsClear};
 ghost use Rattle.shape.specs.Rules.{shape_rules};
-ghost use Rattle.memory.specs.Memory.{Each};
-ghost use Rattle.reading_lines.specs.Passes.{of_line};
-ghost use Rattle.reading_planes.specs.Planes.{Behind, Fronts, held, planes_length, gained};
-ghost use Rattle.reading_sums.specs.CarryLines.{CarryLines};
+ghost use Rattle.sums.specs.Memory.{Tabulates};
+ghost use Rattle.reading_sums.specs.Passes.{of_line};
+ghost use Rattle.reading_sums.specs.Planes.{IsSweptBehind, HoldsSumsAhead, carried_number};
+ghost use Rattle.reading_sums.specs.Planes.{planes_length, gained_sum};
+ghost use Rattle.reading_sums.specs.CarryLines.{AreCarryLines};
 
 use crate::Changes;
+use crate::passes::{move_add, steps};
 use lines::Line;
-use reading_lines::{move_add, steps};
 use shape::Shape;
 
-// A line whose planes are carried: `entering` comes in below the windows, and `leaving` goes out above. `plain`
-// says that silence needs no test: a flag, since a loop asks it once and becomes two packed loops.
+/// A line whose planes are carried from the windows of a row to those of the next.
 #[derive(Clone, Copy)]
 pub struct Carried<'a> {
+    /// Ticks of the cycle, rows and columns of the image, rows and columns of the mask.
     pub shape: Shape,
+    /// The line of the readings at which the sums are made.
     pub own: &'a Line,
+    /// The line of the row that comes in below the windows.
     pub entering: &'a Line,
+    /// The line of the row that goes out above them.
     pub leaving: &'a Line,
+    /// Whether silence needs no test: true only if the cycle is short, or all readings of the three
+    /// lines are heard.
     pub plain: bool,
-    ghost accepted: { Clear (shape_rules longest_cycle shape) },
-    ghost lines: { ∥ CarryLines plain shape own.now entering.now leaving.now ∥₁ },
+    ghost accepted: { IsClear (shape_rules longest_cycle shape) },
+    ghost lines: { ∥ AreCarryLines plain shape own.now entering.now leaving.now ∥₁ },
 }
 
 impl<'a> Carried<'a> {
-    // The sweep ahead, over every plane.
+    /// The sweep ahead: to each number of `planes`, the T·N of the line, what its reading gains and
+    /// loses over the columns from its place on is added.
+    ///
+    /// `changes` is left as the sweep behind begins: zeros. `stepped` is memory for the steps.
     pub fn ahead(&self, planes: &mut [u32], changes: &mut Changes, stepped: &mut Line)
         requires { length planes.old ≡ planes_length self.now.shape }
-        ensures fronts { Fronts self.now.shape planes.new (held self.now.shape planes.old)
+        ensures fronts { HoldsSumsAhead self.now.shape planes.new
+            (carried_number self.now.shape planes.old)
             (of_line self.now.shape.cycle self.now.own.now self.now.entering.now)
             (of_line self.now.shape.cycle self.now.own.now self.now.leaving.now) 0 }
-        ensures behind { Behind self.now.shape
+        ensures behind { IsSweptBehind self.now.shape
             (of_line self.now.shape.cycle self.now.own.now self.now.entering.now)
             (of_line self.now.shape.cycle self.now.own.now self.now.leaving.now) changes.new 0 }
     {
@@ -71,17 +82,21 @@ impl<'a> Carried<'a> {
         changes[..columns + mask].fill(0);
     }
 
-    // One turn of the sweep behind: plane l, from the changes of the plane before it. By its number: the places of `own` go by it.
+    /// Turn l of the sweep behind, for l from 1: adds to each number of plane l what its reading
+    /// gains and loses over the columns before its place.
+    ///
+    /// `changes` is as turn l - 1 left it. `stepped` is memory for the steps.
     pub fn behind(&self, l: usize, plane: &mut [u32], changes: &mut Changes, stepped: &mut Line)
         requires later_plane { (0 < l) × (l < self.now.shape.mask_columns) }
         requires one_plane { length plane.old ≡ self.now.shape.columns }
-        requires behind { Behind self.now.shape
+        requires behind { IsSweptBehind self.now.shape
             (of_line self.now.shape.cycle self.now.own.now self.now.entering.now)
-            (of_line self.now.shape.cycle self.now.own.now self.now.leaving.now) changes.old (l - 1) }
-        ensures behind_next { Behind self.now.shape
+            (of_line self.now.shape.cycle self.now.own.now self.now.leaving.now) changes.old
+            (l - 1) }
+        ensures behind_next { IsSweptBehind self.now.shape
             (of_line self.now.shape.cycle self.now.own.now self.now.entering.now)
             (of_line self.now.shape.cycle self.now.own.now self.now.leaving.now) changes.new l }
-        ensures gained { Each plane.new (gained plane.old
+        ensures gained { Tabulates plane.new (gained_sum plane.old
             (of_line self.now.shape.cycle self.now.own.now self.now.entering.now)
             (of_line self.now.shape.cycle self.now.own.now self.now.leaving.now) l) }
     {

@@ -1,4 +1,5 @@
 -- What the writer and the reader promise: their answers, and what they leave in lent memory.
+-- SPECIFICATION, "Writer" and "Reader".
 use Rattle.std.specs.Prelude.{ℕ, ◌≡◌, List, length, Result}
 use Rattle.lists.specs.Front.{at_front}
 use Rattle.refusal.specs.declared.Refusal.{Refusal}
@@ -7,12 +8,16 @@ use Rattle.shape.specs.declared.Shape.{Shape}
 use Rattle.record_format.specs.Record.{record_bytes, write_due}
 use Rattle.record_format.specs.Reading.{image_in, read_due}
 
--- the writer: bytes before the call, bytes' after it
-pub record WriteCall (s : Shape) (readings bytes : List ℕ) (r : Result ℕ Refusal) (bytes' : List ℕ) : Type 0 where
+-- the writer: the bytes before the call, and after it (bytes')
+pub record WriteCall (s : Shape) (readings bytes : List ℕ) (r : Result ℕ Refusal)
+    (bytes' : List ℕ) : Type 0 where
   pub answer : outcome r ≡ write_due s readings (length bytes)
-  pub memory : bytes' ≡ after (write_due s readings (length bytes)) (λ n. at_front (record_bytes s readings) bytes) bytes
+  pub memory : bytes' ≡ after (write_due s readings (length bytes))
+      (λ n. at_front (record_bytes s readings) bytes) bytes
 
--- the reader: buffer before the call, buffer' after it
-pub record ReadCall (bytes buffer : List ℕ) (r : Result Shape Refusal) (buffer' : List ℕ) : Type 0 where
+-- the reader: the buffer before the call, and after it (buffer')
+pub record ReadCall (bytes buffer : List ℕ) (r : Result Shape Refusal)
+    (buffer' : List ℕ) : Type 0 where
   pub answer : outcome r ≡ read_due bytes (length buffer)
-  pub memory : buffer' ≡ after (read_due bytes (length buffer)) (λ s. at_front (image_in bytes) buffer) buffer
+  pub memory : buffer'
+      ≡ after (read_due bytes (length buffer)) (λ s. at_front (image_in bytes) buffer) buffer

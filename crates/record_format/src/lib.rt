@@ -1,7 +1,6 @@
-// Numbers and fields as bytes: each number two bytes, high byte first. Offsets count from the start of the record, as the
-// paper's places of fields do, here and in reader and writer: so a function takes an offset, and not the part of the bytes
-// behind it.
-// Internal: the tests are the caller's.
+//! Numbers and fields of a record as bytes: a number is two bytes, high byte first. All offsets
+//! count from the start of the record. Internal: each `requires` is met by the tests of the writer
+//! or the reader. SPECIFICATION, "Fields".
 #![tactic(auto)]
 
 pub mod layout;
@@ -13,18 +12,23 @@ ghost use Rattle.record_format.specs.Layout.{number_length};
 
 use layout::NUMBER_LENGTH;
 
-// What a field holds: the cycle, the sizes, the sides of the mask, a row of readings, or nothing.
+/// What a field holds, by its tag.
 #[derive(Clone, Copy, Debug, PartialEq, Eq)]
 pub enum Tag {
+    /// The cycle, one number.
     Cycle = 0x01,
+    /// The rows and the columns, two numbers.
     Size = 0x02,
+    /// The sides of the mask, rows and then columns; or nothing, which is the default mask.
     Mask = 0x03,
+    /// A row of readings, a number for each column.
     Row = 0x04,
+    /// Nothing; the last field.
     End = 0xFF,
 }
 
 impl Tag {
-    // The byte that a field begins with.
+    /// The byte that a field begins with.
     pub fn byte(self) -> u8
         ensures { result ≡ tag_byte self }
     {
@@ -32,7 +36,7 @@ impl Tag {
     }
 }
 
-// The number at an offset.
+/// The number at an offset.
 #[tactic(auto, unfolding(crate::specs::Fields::number_at))]
 pub fn number_at(bytes: &[u8], at: usize) -> u16
     requires { at + number_length ≤ length bytes.now }
@@ -41,7 +45,7 @@ pub fn number_at(bytes: &[u8], at: usize) -> u16
     u16::from_be_bytes([bytes[at], bytes[at + 1]])
 }
 
-// Writes a number at an offset.
+/// Writes a number at an offset.
 pub fn put_number(bytes: &mut [u8], at: usize, x: u16)
     requires { at + number_length ≤ length bytes.old }
     ensures { bytes.new ≡ sets bytes.old at (number x) }

@@ -1,4 +1,5 @@
--- Document 01, "The bench sheet": what the sheet of a record is answered, its text, and what is left in lent memory.
+-- What the sheet of a record answers, its text, and what it leaves in lent memory:
+-- SPECIFICATION, "Sheet".
 use Rattle.std.specs.Prelude.{ℕ, ◌≡◌, if◌then◌else◌, List, [], ◌∷◌, nat_lt, length}
 use Rattle.lists.specs.Front.{at_front}
 use Rattle.lists.specs.Tabulate.{tabulate}
@@ -12,28 +13,31 @@ use Rattle.filter.specs.declared.Engine.{Engine}
 use Rattle.filter.specs.declared.Engine.TheVariants.{Level, Reading}
 use Rattle.filter.specs.Calls.{need, filter_due, filtered_rows, zeroed_work}
 use Rattle.record_format.specs.Reading.{image_in, read_due}
-use Rattle.text.specs.Text.{Laid}
-use Rattle.sheet_lines.specs.Lines.{refusal_line, image_lines}
+use Rattle.sheet_text.specs.Text.{LaysText}
+use Rattle.sheet_text.specs.Lines.{refusal_line, image_lines}
 use Rattle.sheet.specs.declared.SheetAnswer.{SheetAnswer}
 
--- "uses the level engine if C and the need allow, else the reading engine"
+-- the engine for an image, with so many numbers of work memory: the level engine wherever it can
+-- run, else the reading engine
 abbrev pub engine_for : Shape → ℕ → Engine
-engine_for s room = if nat_lt level_cycle s.cycle then Reading else (if nat_lt room (need Level s) then Reading else Level)
+engine_for s room = if nat_lt level_cycle s.cycle then Reading else
+    (if nat_lt room (need Level s) then Reading else Level)
 
--- 14, "program only, before all others"
+-- test 14, on the length of the record in bytes
 abbrev pub length_due : List ℕ → Outcome Unit
 length_due bytes = first_due (rule (nat_lt most_bytes (length bytes)) 14 0 ∷ []) tt
 
--- "it filters all rows"
+-- what filtering all rows answers
 unfoldable pub filtered_due : Shape → List ℕ → ℕ → ℕ → Outcome Unit
 filtered_due s image output work = filter_due (engine_for s work) s 0 s.rows image output work
 
--- the sheet of a record, for buffers of so many numbers: 14, then the reader, then the filter
+-- what the sheet answers, for buffers of so many numbers: 14, then the reader, then the filter
 unfoldable pub sheet_due : List ℕ → ℕ → ℕ → ℕ → Outcome Shape
 sheet_due bytes readings output work =
-    and_then (length_due bytes) (λ u. and_then (read_due bytes readings) (λ s. and_then (filtered_due s (image_in bytes) output work) (λ u. accepted s)))
+    and_then (length_due bytes) (λ u. and_then (read_due bytes readings)
+    (λ s. and_then (filtered_due s (image_in bytes) output work) (λ u. accepted s)))
 
--- the filtered image
+-- the filtered image, row by row
 abbrev pub filtered_image : Shape → List ℕ → List ℕ
 filtered_image s image = tabulate (phase_at s image) 0 (area s)
 
@@ -42,20 +46,25 @@ abbrev pub sheet_text : Outcome Shape → List ℕ → List ℕ
 sheet_text (accepted s) image = image_lines s (filtered_image s image)
 sheet_text (refused number place) image = refusal_line number place
 
--- What reading and filtering a record with the outcome o leaves in lent memory: its new contents if it was accepted, else what it held before.
-pub record RecordFiltered (o : Outcome Shape) (bytes readings₀ output₀ work₀ readings₁ output₁ work₁ : List ℕ) : Type 0 where
+-- what reading and filtering leave in lent memory: the new contents if the outcome o is accepted,
+-- else what was there before
+pub record FiltersRecord (o : Outcome Shape)
+    (bytes readings₀ output₀ work₀ readings₁ output₁ work₁ : List ℕ) : Type 0 where
   pub readings : readings₁ ≡ after o (λ s. at_front (image_in bytes) readings₀) readings₀
   pub output : output₁ ≡ after o (λ s. filtered_rows s 0 s.rows (image_in bytes) output₀) output₀
   pub work : work₁ ≡ after o (λ s. zeroed_work (engine_for s (length work₀)) s work₀) work₀
 
--- What a sheet with the outcome o answers and leaves: the text, as far as there is room for it, whatever the outcome is; and all other
--- memory as reading and filtering leaves it.
-pub record SheetWith (o : Outcome Shape) (bytes readings₀ output₀ work₀ text₀ : List ℕ) (r : SheetAnswer) (readings₁ output₁ work₁ text₁ : List ℕ) : Type 0 where
+-- what a sheet with the outcome o leaves: the text as far as there is room for it, whatever the
+-- outcome, and all other memory as reading and filtering leave it
+pub record SheetWith (o : Outcome Shape) (bytes readings₀ output₀ work₀ text₀ : List ℕ)
+    (r : SheetAnswer) (readings₁ output₁ work₁ text₁ : List ℕ) : Type 0 where
   pub answer : outcome r.result ≡ and_then o (λ s. accepted tt)
-  pub text : Laid text₀ 0 (sheet_text o (image_in bytes)) r.length text₁
-  pub memory : RecordFiltered o bytes readings₀ output₀ work₀ readings₁ output₁ work₁
+  pub text : LaysText text₀ 0 (sheet_text o (image_in bytes)) r.length text₁
+  pub memory : FiltersRecord o bytes readings₀ output₀ work₀ readings₁ output₁ work₁
 
 -- the sheet of a record
-abbrev pub SheetCall : List ℕ → List ℕ → List ℕ → List ℕ → List ℕ → SheetAnswer → List ℕ → List ℕ → List ℕ → List ℕ → Type 0
+abbrev pub SheetCall : List ℕ → List ℕ → List ℕ → List ℕ → List ℕ → SheetAnswer → List ℕ → List ℕ
+    → List ℕ → List ℕ → Type 0
 SheetCall bytes readings₀ output₀ work₀ text₀ r readings₁ output₁ work₁ text₁ =
-    SheetWith (sheet_due bytes (length readings₀) (length output₀) (length work₀)) bytes readings₀ output₀ work₀ text₀ r readings₁ output₁ work₁ text₁
+    SheetWith (sheet_due bytes (length readings₀) (length output₀)
+    (length work₀)) bytes readings₀ output₀ work₀ text₀ r readings₁ output₁ work₁ text₁

@@ -1,29 +1,32 @@
-// The bench sheet of document 01 as a function from the bytes of a record to the bytes of a text, over
-// lent memory. What the program prints is what stands here. All is tested before anything is stored: a
-// refused sheet changes nothing but the text, which is the call's product.
+//! The bench sheet, as a function over lent memory from the bytes of a record to the bytes of a
+//! text. All is tested before anything is stored, so that a refused sheet changes nothing but the
+//! text. SPECIFICATION, "Sheet".
 #![tactic(auto)]
 
 ghost use Rattle.std.specs.Prelude.{◌≡◌, ◌≤◌, length};
 ghost use Rattle.refusal.specs.Outcome.{outcome};
-ghost use Rattle.sheet_lines.specs.Lines.{most_text};
-ghost use Rattle.sheet.specs.Sheet.{engine_for, sheet_due, RecordFiltered, SheetCall};
+ghost use Rattle.sheet_text.specs.Lines.{most_text};
+ghost use Rattle.sheet.specs.Sheet.{engine_for, sheet_due, FiltersRecord, SheetCall};
 
 use filter::Engine;
 use refusal::limits::{LEVEL_CYCLE, MOST_BYTES};
 use refusal::{Refusal, refuse_if};
 use shape::Shape;
-pub use sheet_lines::MOST_TEXT;
-use sheet_lines::{write_lines, write_refusal};
+pub use sheet_text::MOST_TEXT;
+use sheet_text::{write_lines, write_refusal};
 
-// The length is that of the whole text. Where it is above that of the text memory, the text was cut. It stands beside
-// the result, since the line of a refusal has a length too.
+/// What a sheet answers.
 #[derive(Clone, Copy, Debug, PartialEq, Eq)]
 pub struct SheetAnswer {
+    /// Bytes of the whole text, a refusal's line too; above the length of the text memory if the
+    /// text was cut.
     pub length: usize,
+    /// Nothing, or the refusal whose line the text is.
     pub result: Result<(), Refusal>,
 }
 
-// The engine for an image, with so many numbers of work memory.
+// The engine for an image, with so many numbers of work memory: the level engine wherever it can
+// run.
 fn engine_for(shape: Shape, room: usize) -> Engine
     ensures { result ≡ engine_for shape room }
 {
@@ -40,21 +43,22 @@ fn check(bytes: &[u8], readings: usize, output: usize, work: usize) -> Result<Sh
     ensures { outcome result ≡ sheet_due bytes.now readings output work }
 {
     refuse_if(MOST_BYTES < bytes.len(), Refusal::Record)?;
-    let shape = record::look(bytes, readings)?;
+    let shape = record::validate(bytes, readings)?;
     filter::check_room(engine_for(shape, work), shape, output, work)?;
     Ok(shape)
 }
 
-// Reads and filters a record. After the tests no call refuses. The three buffers stay apart: the filter takes
-// each on its own, so that a struct of them would be taken apart here.
+// Reads and filters a record. After the tests no call refuses.
 fn filter_record(
     bytes: &[u8],
     readings: &mut [u16],
     output: &mut [u16],
     work: &mut [u32],
 ) -> Result<Shape, Refusal>
-    ensures answer { outcome result ≡ sheet_due bytes.now (length readings.old) (length output.old) (length work.old) }
-    ensures memory { RecordFiltered (outcome result) bytes.now readings.old output.old work.old readings.new output.new work.new }
+    ensures answer { outcome result
+        ≡ sheet_due bytes.now (length readings.old) (length output.old) (length work.old) }
+    ensures memory { FiltersRecord (outcome result) bytes.now readings.old output.old work.old
+        readings.new output.new work.new }
 {
     let shape = check(bytes, readings.len(), output.len(), work.len())?;
     let engine = engine_for(shape, work.len());
@@ -70,7 +74,24 @@ fn filter_record(
     Ok(shape)
 }
 
-// The sheet of a record, or the line of its refusal.
+/// Lays the sheet of a record at the front of `text`, or the line of its refusal.
+///
+/// - `bytes`: the record, at most 16,384 bytes.
+/// - `readings`: at least `rows * columns` numbers, for the image.
+/// - `output`: as many, for the filtered image.
+/// - `work`: the level engine filters where the cycle has at most 4,096 ticks and
+///   `cycle * (columns + 1)` numbers are here; else the reading engine, which needs
+///   `mask_rows * mask_columns * (columns + 1)`.
+/// - `text`: receives the text, as much of it as there is room for; 65,536 bytes (`MOST_TEXT`) hold
+///   every sheet.
+///
+/// Refuses a record that is too long (14), then as `record::read` does with room for `readings`,
+/// then the length of the output (7) and that of the work memory (8), in this order; the places of
+/// 14, 7 and 8 are 0.
+///
+/// Accepted: the image stands at the front of `readings`, all its rows, filtered, at the front of
+/// `output`, and the needed numbers of `work` are 0. All else in them is as before. Refused: all
+/// three are as before. What is behind the text is as before in either case.
 pub fn sheet(
     bytes: &[u8],
     readings: &mut [u16],
@@ -78,7 +99,8 @@ pub fn sheet(
     work: &mut [u32],
     text: &mut [u8],
 ) -> SheetAnswer
-    ensures sheet_call { SheetCall bytes.now readings.old output.old work.old text.old result readings.new output.new work.new text.new }
+    ensures sheet_call { SheetCall bytes.now readings.old output.old work.old text.old result
+        readings.new output.new work.new text.new }
     ensures result_bound { result.length ≤ most_text }
 {
     match filter_record(bytes, readings, output, work) {

@@ -1,4 +1,4 @@
--- `circle_median::circle_median_write` meets its contract: a record's length is a value of 64 bits.
+-- A record's length is a value of 64 bits.
 use Rattle.std.proofs.Common.{◌≡◌, ◌<◌, ◌^◌, ℕ, List, sym, arith}
 use Rattle.refusal.specs.Outcome.Outcome.{accepted}
 use Rattle.refusal.proofs.Outcome.{accepted_clear, accepted_value}
@@ -7,13 +7,15 @@ use Rattle.record_format.specs.Record.{record_length, write_rules, write_due}
 use Rattle.record_format.proofs.Writable.{writable, record_length_fits}
 use Rattle.circle_median.proofs.circle_median_write.Goals as goal
 
-length_fits : (s : Shape) (readings : List ℕ) (room : ℕ) {n : ℕ} → accepted n ≡ write_due s readings room → n < 2 ^ 63
+-- an accepted length is below 2 ^ 63
+length_fits : (s : Shape) (readings : List ℕ) (room : ℕ) {n : ℕ}
+    → accepted n ≡ write_due s readings room → n < 2 ^ 63
 unfolding write_due
-length_fits s readings room {n} said =
-    let clear = accepted_clear (record_length s) (write_rules s readings room) n (sym said) in
+length_fits s readings room {n} answer-is =
+    let clear = accepted_clear (record_length s) (write_rules s readings room) n (sym answer-is) in
     omega (
       arith,
-      accepted_value (record_length s) (write_rules s readings room) n (sym said),
+      accepted_value (record_length s) (write_rules s readings room) n (sym answer-is),
       record_length_fits (writable s readings room clear).shape,
     )
 

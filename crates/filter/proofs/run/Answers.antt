@@ -1,25 +1,33 @@
--- `filter::run` meets its contract: a refusal returns at once; else the engine's rows, and the needed work memory zeroed.
+-- The tests say what the engine and the slices ask for; the engine's rows and `fill` are the rest.
 use Rattle.std.proofs.Common.{◌≡◌, ◌≤◌, length, sym, arith, length-take-le, take}
 use Rattle.refusal.specs.Outcome.Outcome.{accepted}
 use Rattle.lines.proofs.Given.{ready_wider}
 use Rattle.filter.specs.Calls.{filter_due, need}
-use Rattle.filter.proofs.CallLaws.{Image, front-zeroed, zeroed, tests_clear, call-tested, call-ready, limit-fits}
+use Rattle.filter.proofs.CallLaws.{IsTestedImage, front-zeroed, zeroed, tests_clear, call-tested}
+use Rattle.filter.proofs.CallLaws.{call-ready, limit-fits}
 use Rattle.filter.proofs.run.Goals as goal
 use Rattle.filter.proofs.run.Goals.{In_ok-check_filter}
 
--- what the tests said
-said : (c : In_ok-check_filter) → let a = c.args in
-    filter_due a.engine a.shape a.rows.start a.rows.end a.input.now (length a.output.now) (length a.work.now) ≡ accepted tt
-said c = sym c.in_ok-check_filter.ensures
+-- no test was due
+answer-is : (c : In_ok-check_filter) → let a = c.args in
+    filter_due a.engine a.shape a.rows.start a.rows.end a.input.now (length a.output.now)
+    (length a.work.now) ≡ accepted tt
+answer-is c = sym c.in_ok-check_filter.ensures
 
+-- so the arguments are what the tests say
 tested : (c : In_ok-check_filter) → let a = c.args in
-    Image a.shape (need a.engine a.shape) a.rows.start a.rows.end a.input.now (length a.output.now) (length a.work.now)
-tested c = let a = c.args in call-tested a.engine a.shape a.rows.start a.rows.end a.input.now _ _ (said c)
+    IsTestedImage a.shape (need a.engine a.shape) a.rows.start a.rows.end a.input.now (length a.output.now)
+    (length a.work.now)
+tested c = let a =
+    c.args in call-tested a.engine a.shape a.rows.start a.rows.end a.input.now _ _ (answer-is c)
 
 pub invariant_of-image : goal.invariant_of-image
 invariant_of-image c =
     let a = c.args in
-    record { ready = ready_wider (limit-fits a.engine) (call-ready a.engine a.shape a.rows.start a.rows.end a.input.now _ _ (said c)) }
+    record {
+      ready = ready_wider (limit-fits a.engine)
+          (call-ready a.engine a.shape a.rows.start a.rows.end a.input.now _ _ (answer-is c));
+    }
 
 pub fill-requires : goal.fill-requires
 fill-requires c =
@@ -27,7 +35,11 @@ fill-requires c =
     let s = (goal.at.fill-requires c).In_ok-check_filter in
     let i = tested s in
     record {
-      given = record { ready = call-ready a.engine a.shape a.rows.start a.rows.end a.input.now _ _ (said s); room = i.work-room };
+      given = record {
+        ready = call-ready a.engine a.shape a.rows.start a.rows.end a.input.now _ _
+            (answer-is s);
+        room = i.work-room;
+      };
       order = i.order;
       within = i.within;
       output-room = i.output-room;
@@ -36,16 +48,24 @@ fill-requires c =
 pub need-need-requires : goal.need-need-requires
 need-need-requires c =
     let a = c.args in
-    (tests_clear a.engine a.shape a.rows.start a.rows.end a.input.now _ _ (said (goal.at.need-need-requires c).In_ok-check_filter)).0
+    (tests_clear a.engine a.shape a.rows.start a.rows.end a.input.now _ _
+    (answer-is (goal.at.need-need-requires c).In_ok-check_filter)).0
 
 pub slice_bounds-fill-end : goal.slice_bounds-fill-end
 slice_bounds-fill-end c =
-    omega (arith, c.need-need.ensures, (tested (goal.at.slice_bounds-fill-end c).In_ok-check_filter).work-room, c.fill.ensures.outside.len)
+    omega (
+      arith,
+      c.need-need.ensures,
+      (tested
+          (goal.at.slice_bounds-fill-end c).In_ok-check_filter).work-room,
+      c.fill.ensures.outside.len,
+    )
 
 pub slice_bounds-fill-end-2 : goal.slice_bounds-fill-end-2
 slice_bounds-fill-end-2 c =
     let room = (tested (goal.at.slice_bounds-fill-end-2 c).In_ok-check_filter).work-room in
-    sym (length-take-le c.need-need.result c.fill.new.work (omega (arith, c.need-need.ensures, room, c.fill.ensures.outside.len)))
+    sym (length-take-le c.need-need.result c.fill.new.work
+    (omega (arith, c.need-need.ensures, room, c.fill.ensures.outside.len)))
 
 pub returns : goal.returns
 returns c =
@@ -54,10 +74,12 @@ returns c =
     let room = (tested s).work-room in
     let n = c.need-need.result in
     let zeros = c.fill-2.ensures.after (λ y e. e) in
-    let taken : length (take n c.fill.new.work) ≡ n = length-take-le n c.fill.new.work (omega (arith, c.need-need.ensures, room, x.outside.len)) in
+    let taken : length (take n c.fill.new.work) ≡ n = length-take-le n c.fill.new.work
+    (omega (arith, c.need-need.ensures, room, x.outside.len)) in
     record {
-      answer = sym (said s);
+      answer = sym (answer-is s);
       output = x.phases;
       work = zeroed c.args.work.now room x.outside.len (λ q h. x.outside.after q (omega arith))
-          (front-zeroed {w = c.fill.new.work} c.need-need.ensures (omega (arith, c.need-need.ensures, room, x.outside.len)) (rw taken at zeros));
+          (front-zeroed {w = c.fill.new.work} c.need-need.ensures
+          (omega (arith, c.need-need.ensures, room, x.outside.len)) (rw taken at zeros));
     }

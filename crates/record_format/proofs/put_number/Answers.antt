@@ -1,4 +1,4 @@
--- `record_format::put_number` meets its contract: the part that is lent comes back as the two bytes of the number.
+-- The two bytes at the offset become those of the number.
 use Rattle.std.proofs.Common.{◌≡◌, ◌/◌, ◌%◌, ap, ◌∙◌, arith}
 use Rattle.std.proofs.lemmas.List.Edits.{sets}
 use Rattle.lists.proofs.Stores.{put_mid-sets}
@@ -10,5 +10,7 @@ unfolding number
 returns c =
     let a = c.args in
     let high : a.x / 256 % 256 ≡ a.x / 256 = omega arith in
-    let part : c.copy_from_slice.new.self ≡ number a.x = c.copy_from_slice.ensures.after ∙ c.to_be_bytes.ensures ∙ rw high in
-    put_mid-sets a.bytes.now c.copy_from_slice.new.self a.at _ (omega (arith, c.copy_from_slice.ensures.len)) (omega arith) ∙ ap (sets a.bytes.now a.at) part
+    let part : c.copy_from_slice.new.self ≡ number a.x =
+    c.copy_from_slice.ensures.after ∙ c.to_be_bytes.ensures ∙ rw high in
+    put_mid-sets a.bytes.now c.copy_from_slice.new.self a.at _ (omega
+    (arith, c.copy_from_slice.ensures.len)) (omega arith) ∙ ap (sets a.bytes.now a.at) part

@@ -1,13 +1,16 @@
--- `sheet::sheet` meets its contract.
+-- The rows of the output have passed the tests of the drift, so that their lines are written; or
+-- the line of the refusal is.
 use Rattle.std.proofs.Common.{length}
-use Rattle.sheet.proofs.Calls.{SheetAccepted, sheet_accepted, output_sizes, output_clear, output-text, refused_sheet, printed_sheet}
-use Rattle.sheet.proofs.Fits.{told-fits}
+use Rattle.sheet.proofs.Calls.{SheetAccepted, sheet_accepted, output_sizes, output_clear}
+use Rattle.sheet.proofs.Calls.{output-text, refused_sheet, printed_sheet}
+use Rattle.sheet.proofs.Fits.{sheet_length-fits}
 use Rattle.sheet.proofs.sheet.Goals as goal
 use Rattle.sheet.proofs.sheet.Goals.{In-Ok}
 
 -- the tests have passed
 passed : (c : In-Ok) → let a = c.args in
-    SheetAccepted a.bytes.now (length a.readings.now) (length a.output.now) (length a.work.now) c.in-Ok.shape
+    SheetAccepted a.bytes.now (length a.readings.now) (length a.output.now)
+    (length a.work.now) c.in-Ok.shape
 passed c = sheet_accepted c.in-Ok.ensures.answer
 
 pub write_lines-requires : goal.write_lines-requires
@@ -24,11 +27,12 @@ write_lines-requires c =
 pub returns-in-Ok : goal.returns-in-Ok
 returns-in-Ok c =
     let done = c.in-Ok.ensures in
-    let lines = output-text c.args.output.now (passed (goal.at.returns-in-Ok c).In-Ok) done.memory.output in
+    let lines =
+    output-text c.args.output.now (passed (goal.at.returns-in-Ok c).In-Ok) done.memory.output in
     let all = printed_sheet done.answer done.memory (rw lines at c.write_lines.ensures) in
-    record { sheet_call = all; result_bound = told-fits all }
+    record { sheet_call = all; result_bound = sheet_length-fits all }
 
 pub returns-in-Err : goal.returns-in-Err
 returns-in-Err c =
     let s = refused_sheet c.in-Err.ensures.answer c.in-Err.ensures.memory c.write_refusal.ensures in
-    record { sheet_call = s; result_bound = told-fits s }
+    record { sheet_call = s; result_bound = sheet_length-fits s }

@@ -1,9 +1,8 @@
--- What is read stays within the memory; the measure is the memory left.
-use Rattle.std.proofs.Common.{length, ◌-◌, ◌≤◌}
+-- What was read so far stands at the front of the memory.
+use Rattle.std.proofs.Common.{◌≤◌, length, take}
+use Rattle.std.specs.Io.KnownBytes.{Consumes}
 use Rattle.sheet_stdio.proofs.read_full.Given as goal
 
-abbrev pub invariant-loop-filled : goal.invariant-loop-filled
-invariant-loop-filled g l = l.filled ≤ length l.bytes
-
-abbrev pub decreases-loop-filled : goal.decreases-loop-filled
-decreases-loop-filled g l = length l.initial.bytes - l.filled
+abbrev pub invariant-loop : goal.invariant-loop
+invariant-loop g l = (l.count ≤ length l.bytes) × Consumes (g.R.Read.remaining l.initial.reader)
+    (g.R.Read.remaining l.reader) (take l.count l.bytes)

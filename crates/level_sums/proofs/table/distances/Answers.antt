@@ -6,7 +6,8 @@ pub loop-k-init : goal.loop-k-init
 loop-k-init c = rw c.requires.zeros filling-none
 
 pub loop-k-preserved : goal.loop-k-preserved
-loop-k-preserved c = filling_turn c.loop-k.invariant (omega arith) (omega arith) c.requires.limit c.distance_at.ensures
+loop-k-preserved c = filling_turn c.loop-k.invariant (omega arith)
+    (omega arith) c.requires.limit c.distance_at.ensures
 
 pub returns : goal.returns
 returns c = filling_all c.loop-k.invariant (omega arith)

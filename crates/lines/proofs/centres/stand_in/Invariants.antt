@@ -1,7 +1,8 @@
--- `lines::centres::stand_in` meets its contract. Assumes nothing.
-use Rattle.memory.specs.Memory.{Begun}
-use Rattle.lines.specs.Lines.{stood_in}
+-- Before place j the silent centres before it are replaced, and the others are as they were.
+use Rattle.sums.specs.Memory.{IsBegun}
+use Rattle.lines.specs.Lines.{heard_or_at}
 use Rattle.lines.proofs.centres.stand_in.Given as goal
 
 abbrev pub invariant-loop-j : goal.invariant-loop-j
-invariant-loop-j l = Begun l.initial.centres l.centres l.j (stood_in l.initial.centres l.readings)
+invariant-loop-j l =
+    IsBegun l.initial.centres l.centres l.j (heard_or_at l.initial.centres l.readings)

@@ -1,4 +1,4 @@
--- `lines::edges::mirror_edges` meets its contract. Assumes nothing.
+-- Before turn k the row has k mirrored numbers at each end.
 use Rattle.lines.proofs.Edging.{Edging}
 use Rattle.lines.proofs.edges.mirror_edges.Given as goal
 

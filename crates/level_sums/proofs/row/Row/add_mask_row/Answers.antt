@@ -17,7 +17,8 @@ loop-l-preserved c =
     let image = row.source.image in
     let l = c.loop-l.l in
     let sum = part_sum image.shape image.readings.now row.i c.args.k in
-    run_added (sum l) (λ q. 0) (sum (l + 1)) (λ q. 0) c.loop-l.invariant c.add.auto.sums _ c.part_at.ensures c.add.ensures
+    run_added (sum l) (λ q. 0) (sum (l + 1))
+    (λ q. 0) c.loop-l.invariant c.add.auto.sums _ c.part_at.ensures c.add.ensures
     (λ q h. part_more image.shape image.readings.now row.i c.args.k l q) (λ q h. refl)
 
 pub returns : goal.returns
@@ -25,4 +26,5 @@ returns c =
     let row = c.args.self.now in
     let image = row.source.image in
     let e : c.loop-l.l ≡ image.shape.mask_columns = omega arith in
-    ticks_are (rw e at c.loop-l.invariant) (λ q h. part_all image.shape image.readings.now row.i c.args.k q)
+    ticks_are (rw e at c.loop-l.invariant)
+    (λ q h. part_all image.shape image.readings.now row.i c.args.k q)

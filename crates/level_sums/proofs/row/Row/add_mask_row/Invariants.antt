@@ -1,5 +1,4 @@
--- `level_sums::row::Row::add_mask_row` meets its contract: after l columns the sums are those of k mask rows and of l readings of
--- the next. Assumes nothing.
+-- Before mask column l the sums are those of k mask rows and of l readings of the next.
 use Rattle.lists.specs.Difference.{difference}
 use Rattle.level_sums.specs.Sums.{AtTicks}
 use Rattle.level_sums.proofs.ColumnLaws.{part_sum}
@@ -7,4 +6,5 @@ use Rattle.level_sums.proofs.row.Row.add_mask_row.Given as goal
 
 abbrev pub invariant-loop-l : goal.invariant-loop-l
 invariant-loop-l l = let image = l.self.source.image in
-    AtTicks image.shape.cycle (λ q. difference (part_sum image.shape image.readings.now l.self.i l.k l.l q) 0) l.sums
+    AtTicks image.shape.cycle
+    (λ q. difference (part_sum image.shape image.readings.now l.self.i l.k l.l q) 0) l.sums

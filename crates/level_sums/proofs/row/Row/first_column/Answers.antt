@@ -10,7 +10,8 @@ pub loop-k-init : goal.loop-k-init
 loop-k-init c =
     let row = c.args.self.now in
     let image = row.source.image in
-    ticks_zero (c.fill.ensures.after (λ y e. e)) c.requires (block_none image.shape image.readings.now row.i)
+    ticks_zero (c.fill.ensures.after (λ y e. e)) c.requires
+    (block_none image.shape image.readings.now row.i)
 
 pub returns : goal.returns
 returns c =
@@ -18,4 +19,5 @@ returns c =
     let image = row.source.image in
     let e : c.loop-k.k ≡ image.shape.mask_rows = omega arith in
     ticks_are (rw e at c.loop-k.invariant)
-    (λ q h. block_all image.shape image.readings.now row.source.ready row.i q row.inside (shape_clear level_cycle image.shape row.source.ready.shape).columns_some h)
+    (λ q h. block_all image.shape image.readings.now row.source.ready row.i q row.inside
+    (shape_clear level_cycle image.shape row.source.ready.shape).columns_some h)

@@ -1,4 +1,4 @@
--- `level_sums::row::Row::set_up` meets its contract: a column is that before it, moved on. Assumes nothing.
+-- The sums of the column before are copied, and moved on by a column.
 use Prim.Native.Nat.{◌+◌, ◌-◌}
 use mathlib.Core.Path.{◌≡◌, refl}
 use native.Mathlib.Omega.{arith}
@@ -10,7 +10,8 @@ use Rattle.level_sums.proofs.row.Row.set_up.Goals as goal
 pub copy_from_slice-requires : goal.copy_from_slice-requires
 copy_from_slice-requires c =
     let source = c.args.self.now.source in
-    let room = part_end c.args.j source.image.shape.columns source.image.shape.cycle c.requires.image_column in
+    let room = part_end c.args.j source.image.shape.columns source.image.shape.cycle
+    c.requires.image_column in
     let ends = before_ends c.args.j source.image.shape.cycle c.if-j-eq0.false in
     simp (length-take, length-drop) (omega (arith, room, ends))
 
@@ -18,10 +19,12 @@ pub next_column-requires-clause-column : goal.next_column-requires-clause-column
 next_column-requires-clause-column c =
     let row = c.args.self.now in
     let source = row.source in
-    let room = part_end c.args.j source.image.shape.columns source.image.shape.cycle c.requires.image_column in
+    let room = part_end c.args.j source.image.shape.columns source.image.shape.cycle
+    c.requires.image_column in
     let ends = before_ends c.args.j source.image.shape.cycle c.if-j-eq0.false in
     rw (c.copy_from_slice.ensures.after, c.split_at_mut-before.ensures.front)
-    (column_reads source.image row.i (c.args.j - 1) c.args.sums.now c.requires.before (omega arith) (omega (arith, c.if-j-eq0.false)) (omega (arith, ends))
+    (column_reads source.image row.i (c.args.j - 1) c.args.sums.now c.requires.before (omega arith)
+    (omega (arith, c.if-j-eq0.false)) (omega (arith, ends))
     (omega (arith, room)) (simp length-take (omega (arith, room, ends))))
 
 pub returns : goal.returns
@@ -32,5 +35,11 @@ returns c =
     let e : j - 1 + 1 ≡ j = omega (arith, c.if-j-eq0.false) in
     row_more source.image row.i j c.requires.before
     (rw (c.split_at_mut-before.ensures.front, c.split_at_mut-before.ensures.back)
-    (column_changed source.image row.i j (omega (arith, c.requires.room, part_end j source.image.shape.columns source.image.shape.cycle c.requires.image_column)) refl
+    (column_changed source.image row.i j
+    (omega (
+      arith,
+      c.requires.room,
+      part_end j source.image.shape.columns
+          source.image.shape.cycle c.requires.image_column,
+    )) refl
     (rw e at c.next_column.ensures)))

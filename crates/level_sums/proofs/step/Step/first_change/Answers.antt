@@ -9,7 +9,8 @@ pub loop-l-init : goal.loop-l-init
 loop-l-init c =
     let step = c.args.self.now in
     let image = step.source.image in
-    ticks_zero (c.fill.ensures.after (λ y e. e)) c.requires (change_none image.shape image.readings.now step.i)
+    ticks_zero (c.fill.ensures.after (λ y e. e)) c.requires
+    (change_none image.shape image.readings.now step.i)
 
 pub loop-l-preserved : goal.loop-l-preserved
 loop-l-preserved c =
@@ -18,8 +19,10 @@ loop-l-preserved c =
     let l = c.loop-l.l in
     let below = step.i + image.shape.mask_rows in
     let sum = row_sum image.shape image.readings.now in
-    run_swapped (sum below l) (sum step.i l) (sum below (l + 1)) (sum step.i (l + 1)) c.loop-l.invariant c.swap.auto.sums _ _ c.part_at-entering.ensures
-    c.part_at-leaving.ensures c.swap.ensures (λ q h. row_more image.shape image.readings.now below l q) (λ q h. row_more image.shape image.readings.now step.i l q)
+    run_swapped (sum below l) (sum step.i l) (sum below (l + 1))
+    (sum step.i (l + 1)) c.loop-l.invariant c.swap.auto.sums _ _ c.part_at-entering.ensures
+    c.part_at-leaving.ensures c.swap.ensures (λ q h. row_more image.shape image.readings.now below l
+    q) (λ q h. row_more image.shape image.readings.now step.i l q)
 
 pub returns : goal.returns
 returns c =

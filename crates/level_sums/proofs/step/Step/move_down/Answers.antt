@@ -1,4 +1,4 @@
--- `level_sums::step::Step::move_down` meets its contract. Assumes nothing.
+-- Column 0 starts the row, and each other column follows from the one before it.
 use Prim.Native.Nat.{◌+◌, ◌-◌}
 use mathlib.Core.Path.{◌≡◌}
 use native.Mathlib.Omega.{arith}
@@ -13,5 +13,10 @@ returns-else-j-eq0-clause-after c =
     let j = c.args.j in
     let e : j - 1 + 1 ≡ j = omega (arith, c.if-j-eq0.false) in
     descended image step.i j c.requires.before
-    (column_changed image (step.i + 1) j (omega (arith, c.requires.before.room, part_end j image.shape.columns image.shape.cycle c.requires.image_column)) (omega arith)
+    (column_changed image (step.i + 1) j
+    (omega (
+      arith,
+      c.requires.before.room,
+      part_end j image.shape.columns image.shape.cycle c.requires.image_column,
+    )) (omega arith)
     (rw e at c.advance.ensures.column)) (rw e at c.advance.ensures.differences)

@@ -1,11 +1,11 @@
--- `lines::image::Image::pad` meets its contract: with its edges mirrored, the row that is read is the padded row. Assumes nothing.
+-- The row that is copied, with its mirrored edges, is the padded row, and its numbers are readings.
 use Prim.Native.Nat.{◌≤◌, ◌+◌}
 use lib.ListN.{length}
 use native.Mathlib.Omega.{arith}
 use Rattle.refusal.specs.Limits.{longest_cycle}
 use Rattle.shape.specs.Rules.{reach}
 use Rattle.shape.proofs.Accepted.{shape_clear}
-use Rattle.memory.proofs.Memory.{changed_part}
+use Rattle.sums.proofs.Memory.{changed_part}
 use Rattle.window.proofs.Window.{padded-reading}
 use Rattle.lines.specs.Lines.{IsLine}
 use Rattle.lines.proofs.Padding.{line_made}
@@ -18,7 +18,9 @@ returns c =
     let len : IsLine c.args.line.now = omega arith in
     let room : reach image.shape.mask_columns + image.shape.columns ≤ length c.args.line.now =
     omega (arith, sizes.columns_fit, sizes.mask_columns_fit) in
-    line_made image.shape image.readings.now c.args.position c.row_at.ensures.place sizes.columns_some
+    line_made image.shape image.readings.now c.args.position c.row_at.ensures.place
+    sizes.columns_some
     (padded-reading image.ready (omega arith) c.args.position) len
-    (changed_part c.copy_from_slice.new.self room (omega arith) c.copy_from_slice.ensures.len (λ q h. rw (c.copy_from_slice.ensures.after, c.row-row.ensures)))
+    (changed_part c.copy_from_slice.new.self room (omega arith) c.copy_from_slice.ensures.len
+    (λ q h. rw (c.copy_from_slice.ensures.after, c.row-row.ensures)))
     c.mirror_edges.ensures

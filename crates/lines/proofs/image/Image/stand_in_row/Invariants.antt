@@ -1,6 +1,6 @@
--- `lines::image::Image::stand_in_row` meets its contract. Assumes nothing.
-use Rattle.lines.specs.Lines.{Standing}
+-- Before mask column l the mask columns of row k before it have been looked at.
+use Rattle.lines.specs.Lines.{AreCentresSoFar}
 use Rattle.lines.proofs.image.Image.stand_in_row.Given as goal
 
 abbrev pub invariant-loop-l : goal.invariant-loop-l
-invariant-loop-l l = Standing l.self.shape l.self.readings.now l.i l.k l.l l.line
+invariant-loop-l l = AreCentresSoFar l.self.shape l.self.readings.now l.i l.k l.l l.line

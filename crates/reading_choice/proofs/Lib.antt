@@ -1,3 +1,0 @@
-pub mod RankLaws
-pub mod Weighing
-pub mod RowLaws

@@ -1,3 +1,0 @@
-pub mod Ranks
-pub mod Weighed
-pub mod Weighable

@@ -1,3 +1,0 @@
-pub mod Sweeps
-pub mod Sums
-pub mod Ring

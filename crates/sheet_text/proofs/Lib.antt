@@ -1,0 +1,4 @@
+pub mod TextLaws
+pub mod Drifts
+pub mod Lengths
+pub mod WordLaws

@@ -1,0 +1,4 @@
+pub mod Lowest
+pub mod Memory
+pub mod Passes
+pub mod Signed
