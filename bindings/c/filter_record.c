@@ -1,20 +1,18 @@
 /* Prints the bench sheet of a record: filter_record FILE.
  *
- * An example of the calls for C: the record is read, filtered by the engine that fits the memory, and printed row by
- * row with its drift, a silent phase as a `-`. The sizes of the memory are those of the bench sheet program, so the
- * text is the same. The exit status is 0 if a sheet or a refusal was printed, 2 for a wrong call and 1 for a file that
- * cannot be read. */
+ * An example of the calls for C. The record is read and filtered, and each row printed with its
+ * drift, a silent phase as a `-`. Memory has the sizes that the bench sheet's program has, and so
+ * the text is the same: SPECIFICATION, "Sheet". The exit status is 0 if a sheet or a refusal was
+ * printed, 1 for a file that cannot be read and 2 for a wrong call. */
 #include <inttypes.h>
 #include <stdio.h>
 
 #include "circle_median.h"
 
-enum { RECORD_MOST = 16384, READINGS = 8192, WORK = 16384, LEVEL_CYCLE_MOST = 4096 };
+/* The bytes of the longest record that is taken, and the numbers of each memory. */
+enum { RECORD_MOST = 16384, READINGS = 8192, WORK = 16384 };
 
-/* The sheet's own refusal: the record is longer than RECORD_MOST bytes. */
-enum { RECORD_TOO_LONG = 14 };
-
-/* One byte more than a record may have, so that a longer one is noticed. */
+/* A byte more than the longest record has, so that a longer one is noticed. */
 static uint8_t bytes[RECORD_MOST + 1];
 static uint16_t readings[READINGS];
 static uint16_t filtered[READINGS];
@@ -25,12 +23,13 @@ static void print_refusal(uint32_t number, uint64_t place)
     printf("refused %" PRIu32 " at %" PRIu64 "\n", number, place);
 }
 
-/* Filters all rows, by the level engine if it takes the cycle and the work memory is enough, else by the other. */
+/* Filters all rows: by the level engine if it takes the cycle and has the work memory that it needs,
+ * else by the reading engine. */
 static circle_median_answer filter(const circle_median_record_answer *record)
 {
     size_t image = (size_t)record->rows * record->columns;
     size_t level_work = (size_t)record->cycle * (record->columns + 1);
-    int level = record->cycle <= LEVEL_CYCLE_MOST && level_work <= WORK;
+    int level = record->cycle <= CIRCLE_MEDIAN_LEVEL_CYCLE && level_work <= WORK;
 
     return (level ? circle_median_level : circle_median_reading)(
         record->cycle, record->rows, record->columns, record->mask_rows, record->mask_columns, 0, record->rows,
@@ -49,19 +48,19 @@ static void print_row(const circle_median_record_answer *record, uint32_t row)
             printf(" %u", (unsigned)phases[column]);
         }
     }
-    /* A filtered row is never refused: each of its phases is a tick or silent. */
+    /* No filtered row is refused: each of its phases is a tick or silent. */
     printf(" drift %" PRId64 "\n", circle_median_drift(record->cycle, phases, record->columns).value);
 }
 
 static void print_sheet(size_t length)
 {
     circle_median_record_answer record = circle_median_read(bytes, length, readings, READINGS);
-    if (record.number != 0) {
+    if (record.number != CIRCLE_MEDIAN_ACCEPTED) {
         print_refusal(record.number, record.place);
         return;
     }
     circle_median_answer answer = filter(&record);
-    if (answer.number != 0) {
+    if (answer.number != CIRCLE_MEDIAN_ACCEPTED) {
         print_refusal(answer.number, answer.place);
         return;
     }
@@ -86,7 +85,7 @@ int main(int count, char **arguments)
     }
     fclose(file);
     if (length > RECORD_MOST) {
-        print_refusal(RECORD_TOO_LONG, 0);
+        print_refusal(CIRCLE_MEDIAN_REFUSED_RECORD, 0);
     } else {
         print_sheet(length);
     }

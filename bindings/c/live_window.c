@@ -1,9 +1,10 @@
-/* Answers readings one by one by a live window: live_window CYCLE LENGTH < READINGS.
+/* Answers readings one by one with a live window: live_window CYCLE LENGTH < READINGS.
  *
- * An example of the calls for C: the readings come wake by wake, between spaces or line ends, a silent one as a `-`.
- * Each is answered by a line before the next is read: `filling`, the phase, a `-` if none of the window was heard, or
- * the refusal, after which the window is as it was. The exit status is 0 if all readings were answered or the window
- * was refused, 2 for a wrong call and 1 for a word that is no reading or input that cannot be read. */
+ * An example of the calls for C. The readings stand between spaces or line ends, a silent one as a
+ * `-`. Each is answered by a line before the next is read: `filling`, the phase, a `-` if no reading
+ * of the window was heard, or the refusal, which leaves the window alone. The exit status is 0 if
+ * all readings were answered or the window itself was refused, 1 for a word that is no reading or
+ * for input that cannot be read, and 2 for a wrong call. */
 #include <inttypes.h>
 #include <stdio.h>
 #include <stdlib.h>
@@ -11,7 +12,7 @@
 
 #include "circle_median.h"
 
-/* Room for a word; what is longer is cut, and no number then. */
+/* Room for a word; a longer one is cut, and is no number then. */
 enum { WORD = 11 };
 
 static void print_refusal(uint32_t number, uint64_t place)
@@ -19,7 +20,7 @@ static void print_refusal(uint32_t number, uint64_t place)
     printf("refused %" PRIu32 " at %" PRIu64 "\n", number, place);
 }
 
-/* The number that one to nine digits stand for, and -1 for any other word. */
+/* The number that a word of one to nine digits is, and -1 for any other word. */
 static int32_t number_in(const char *word)
 {
     size_t digits = strspn(word, "0123456789");
@@ -27,6 +28,7 @@ static int32_t number_in(const char *word)
     return digits >= 1 && digits <= 9 && word[digits] == '\0' ? (int32_t)strtol(word, NULL, 10) : -1;
 }
 
+/* The reading that a word is, and a number outside 16 bits for a word that is none. */
 static int32_t reading_in(const char *word)
 {
     return strcmp(word, "-") == 0 ? CIRCLE_MEDIAN_SILENT : number_in(word);
@@ -34,9 +36,9 @@ static int32_t reading_in(const char *word)
 
 static void print_answer(circle_median_value_answer answer)
 {
-    if (answer.number != 0) {
+    if (answer.number != CIRCLE_MEDIAN_ACCEPTED) {
         print_refusal(answer.number, answer.place);
-    } else if (answer.value == -1) {
+    } else if (answer.value == CIRCLE_MEDIAN_FILLING) {
         printf("filling\n");
     } else if (answer.value == CIRCLE_MEDIAN_SILENT) {
         printf("-\n");
@@ -77,7 +79,7 @@ int main(int count, char **arguments)
         return 2;
     }
     circle_median_answer answer = circle_median_window_new(&window, (uint32_t)cycle, (uint32_t)length);
-    if (answer.number != 0) {
+    if (answer.number != CIRCLE_MEDIAN_ACCEPTED) {
         print_refusal(answer.number, answer.place);
         return 0;
     }

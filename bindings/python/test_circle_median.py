@@ -1,6 +1,8 @@
-"""Tests of the Python module: against the header's declarations, and against the papers' direct implementation in tools/reference.py.
+"""Tests of the Python module: beside the header's declarations and beside tools/reference.py, which
+follows the rules of docs/SPECIFICATION.md by direct sums.
 
-Usage, from the repository's root, once the shared library is there: python3 -m unittest discover bindings/python
+Usage, from the repository's root, once the shared library is there:
+python3 -m unittest discover bindings/python
 """
 from __future__ import annotations
 
@@ -37,7 +39,7 @@ SPARE = 10**10
 
 def load_tests(loader, tests, pattern):
     """The examples of the docstrings are tests too."""
-    tests.addTests(doctest.DocTestSuite(cm))
+    tests.addTests(doctest.DocTestSuite(cm, optionflags=doctest.ELLIPSIS))
     return tests
 
 
@@ -50,8 +52,14 @@ def told(call, *arguments, **named):
 
 
 def text(*names):
+    """A file of the repository."""
     with open(os.path.join(ROOT, *names), encoding="utf-8") as file:
         return file.read()
+
+
+def header():
+    """The header without its comments."""
+    return re.sub(r"/\*.*?\*/", "", text("include", "circle_median.h"), flags=re.S)
 
 
 def drawn_row(chance, c, n, silent=0.2):
@@ -60,7 +68,8 @@ def drawn_row(chance, c, n, silent=0.2):
 
 def drawn_shape(chance):
     """A cycle, a size and a mask that every call takes, small enough for the reference."""
-    c = chance.choice((1, 2, 3, 8, 9, 360, 512, 4096, chance.randint(1, 40), chance.randint(1, 65535)))
+    short, any_cycle = chance.randint(1, 40), chance.randint(1, 65535)
+    c = chance.choice((1, 2, 3, 8, 9, 360, 512, 4096, short, any_cycle))
     sides = [chance.choice((1, 1, 3, 5, 7)) for _ in range(2)]
     return c, chance.randint(1, 4), chance.randint(1, 9), *sides
 
@@ -70,43 +79,49 @@ class Declarations(unittest.TestCase):
 
     STRUCTS = {
         "circle_median_answer": cm._Answer, "circle_median_value_answer": cm._ValueAnswer,
-        "circle_median_record_answer": cm._RecordAnswer, "circle_median_window_answer": cm._WindowAnswer,
-        "circle_median_window": cm._Window,
+        "circle_median_record_answer": cm._RecordAnswer,
+        "circle_median_window_answer": cm._WindowAnswer, "circle_median_window": cm._Window,
     }
-    TYPES = {"uint16_t": "c_ushort", "uint32_t": "c_uint", "size_t": "c_ulong", "uint64_t": "c_ulong", "int64_t": "c_long"}
+    TYPES = {
+        "uint16_t": "c_ushort", "uint32_t": "c_uint", "size_t": "c_ulong", "uint64_t": "c_ulong",
+        "int64_t": "c_long",
+    }
+    POINTERS = {"uint8_t": "c_ubyte", "uint16_t": "c_ushort", "uint32_t": "c_uint"}
 
     def test_functions(self):
-        found = re.findall(r"^(circle_median_\w+) (circle_median_\w+)\(([^)]*)\);", text("include", "circle_median.h"), re.M)
+        found = re.findall(r"^(circle_median_\w+) (circle_median_\w+)\(([^)]*)\);", header(), re.M)
         self.assertEqual({name for _, name, _ in found}, set(cm._DECLARATIONS))
         for answer, name, parameters in found:
             restype, argtypes = cm._DECLARATIONS[name]
             self.assertIs(restype, self.STRUCTS[answer], name)
-            self.assertEqual([kind.__name__ for kind in argtypes], [self.kind(each) for each in parameters.split(",")], name)
+            due = [self.kind(each) for each in parameters.split(",")]
+            self.assertEqual([kind.__name__ for kind in argtypes], due, name)
 
     def kind(self, parameter):
         words = parameter.replace("const ", "").split()
-        if "*" in parameter:
-            return "LP_" + {"uint8_t": "c_ubyte", "uint16_t": "c_ushort", "uint32_t": "c_uint"}[words[0]]
-        return self.TYPES[words[0]]
+        return f"LP_{self.POINTERS[words[0]]}" if "*" in parameter else self.TYPES[words[0]]
 
     def test_structs(self):
-        (room,) = re.findall(r"^#define CIRCLE_MEDIAN_WINDOW (\d+)$", text("include", "circle_median.h"), re.M)
-        found = re.findall(r"^typedef struct (circle_median_\w+) \{([^}]*)\}", text("include", "circle_median.h"), re.M)
+        (room,) = re.findall(r"^#define CIRCLE_MEDIAN_LIVE_LENGTH (\d+)", header(), re.M)
+        found = re.findall(r"^typedef struct (circle_median_\w+) \{([^}]*)\}", header(), re.M)
         self.assertEqual({name for name, _ in found}, set(self.STRUCTS))
         for name, members in found:
             due = [each.split() for each in members.split(";") if each.strip()]
             fields = self.STRUCTS[name]._fields_
-            self.assertEqual([field for field, _ in fields], [member.partition("[")[0] for _, member in due], name)
+            names = [member.partition("[")[0] for _, member in due]
+            self.assertEqual([field for field, _ in fields], names, name)
             for (_, kind), (word, member) in zip(fields, due):
                 element = getattr(kind, "_type_", kind) if "[" in member else kind
                 self.assertEqual(element.__name__, self.TYPES[word], (name, member))
-                self.assertEqual(ctypes.sizeof(kind), ctypes.sizeof(element) * (int(room) if "[" in member else 1), (name, member))
+                size = ctypes.sizeof(element) * (int(room) if "[" in member else 1)
+                self.assertEqual(ctypes.sizeof(kind), size, (name, member))
 
-    def test_reasons(self):
-        rust = dict(re.findall(r'^ *(\d+) => "(.*)",$', text("bindings", "rust", "src", "refusal.rs"), re.M))
-        self.assertEqual(cm._REASONS, {int(number): why for number, why in rust.items()})
-        self.assertEqual(str(cm.Refused(1)), "refused 1: the cycle is 0 or longer than the call takes")
-        self.assertEqual(str(cm.Refused(13, 35)), "refused 13 at 35: bytes follow the end field")
+    def test_refused_in_words(self):
+        for refused, due in (
+            (cm.Refused(1), "refused 1: the cycle is 0 or longer than the call takes"),
+            (cm.Refused(13, 35), "refused 13 at 35: bytes follow the end field"),
+        ):
+            self.assertEqual(str(refused), due)
 
     def test_refused_is_pickled(self):
         refused = pickle.loads(pickle.dumps(cm.Refused(9, 3)))
@@ -122,25 +137,34 @@ class Declarations(unittest.TestCase):
 class Cycle(unittest.TestCase):
     """Distance, step, slot and drift."""
 
-    NUMBERS = (0, 1, 2, 7, 8, 9, 359, 360, 4096, 65534, 65535, 65536, 65544, 2**32, 2**32 + 8, 2**64 + 3, -1, -8, -(2**40))
+    NUMBERS = (
+        0, 1, 2, 7, 8, 9, 359, 360, 4096, 65534, 65535, 65536, 65544, 2**32, 2**32 + 8, 2**64 + 3,
+        -1, -8, -(2**40),
+    )
 
     def test_pairs_and_slots(self):
         chance = random.Random(1)
         for _ in range(4000):
             c = chance.choice((*self.NUMBERS, chance.randint(1, 65535)))
-            p, s, w = (chance.choice((chance.choice(self.NUMBERS), chance.randrange(max(1, c)))) for _ in range(3))
+            p, s, w = (
+                chance.choice((chance.choice(self.NUMBERS), chance.randrange(max(1, c))))
+                for _ in range(3)
+            )
             for call, due, some in (
-                (cm.distance, ref.distance_call, (p, s)), (cm.step, ref.step_call, (p, s)), (cm.slot, ref.slot_call, (p, s, w)),
+                (cm.distance, ref.distance_call, (p, s)), (cm.step, ref.step_call, (p, s)),
+                (cm.slot, ref.slot_call, (p, s, w)),
             ):
-                # The papers' numbers have no sign; what is below 0 is no cycle and no tick.
+                # The reference's numbers have no sign; what is below 0 is no cycle and no tick.
                 natural = [2**70 if x < 0 else x for x in (c, *some)]
                 self.assertEqual(told(call, c, *some), due(*natural), (call, c, some))
 
     def test_drift(self):
         chance = random.Random(2)
         for _ in range(2000):
-            c = chance.choice((0, 1, 2, 8, 360, 65535, 65536, 2**32 + 8, -8, chance.randint(1, 65535)))
-            row = drawn_row(chance, chance.choice((c + 1, c, c, 360)) % 65535 or 1, chance.randint(0, 30))
+            any_cycle = chance.randint(1, 65535)
+            c = chance.choice((0, 1, 2, 8, 360, 65535, 65536, 2**32 + 8, -8, any_cycle))
+            most = chance.choice((c + 1, c, c, 360)) % 65535 or 1
+            row = drawn_row(chance, most, chance.randint(0, 30))
             due = ref.drift_call(2**70 if c < 0 else c, row)
             self.assertEqual(told(cm.drift, c, array("H", row)), due, (c, row))
         self.assertEqual(told(cm.drift, 8, array("H", [0]) * 8192), 0)
@@ -159,6 +183,10 @@ class Cycle(unittest.TestCase):
 class Filter(unittest.TestCase):
     """Both engines and the choice between them."""
 
+    LIMITS = {
+        cm.Engine.LEVEL: (4096, ref.level_need), cm.Engine.READING: (65535, ref.reading_need),
+    }
+
     def test_against_the_reference(self):
         chance = random.Random(3)
         for _ in range(1500):
@@ -167,38 +195,51 @@ class Filter(unittest.TestCase):
             first = chance.randint(0, m)
             end = chance.randint(first, m)
             due = ref.filtered(shape, first, end, image, [9] * (m * n + 1))
-            for engine in (None, cm.Engine.READING, "reading") + (("level", cm.Engine.LEVEL) if c <= 4096 else ()):
+            rows, lent = range(first, end), array("H", image)
+            level = ("level", cm.Engine.LEVEL) if c <= 4096 else ()
+            for engine in (None, cm.Engine.READING, "reading", *level):
                 output = array("H", [9]) * (m * n + 1)
                 told_back = cm.filter(
-                    array("H", image), c, (r, t), (m, n), rows=range(first, end), engine=engine, output=output,
+                    lent, c, (r, t), (m, n), rows=rows, engine=engine, output=output,
                 )
                 self.assertIs(told_back, output)
                 self.assertEqual(output.tolist(), due, (shape, engine))
-            new = cm.filter(array("H", image), c, (r, t), (m, n), rows=range(first, end))
-            self.assertEqual(new.tolist(), ref.filtered(shape, first, end, image, [cm.SILENT] * (m * n)), shape)
+            new = cm.filter(lent, c, (r, t), (m, n), rows=rows)
+            due = ref.filtered(shape, first, end, image, [cm.SILENT] * (m * n))
+            self.assertEqual(new.tolist(), due, shape)
 
     def test_refusals(self):
         chance = random.Random(4)
         seen = set()
         for _ in range(6000):
             c, m, n, r, t = drawn_shape(chance)
-            c, m, n, r, t = shape = [chance.choice((x, x, x, x, x, x, x, self.odd(chance))) for x in (c, m, n, r, t)]
+            c, m, n, r, t = shape = [
+                chance.choice((x,) * 7 + (self.odd(chance),)) for x in (c, m, n, r, t)
+            ]
             if m * n > 100 and chance.random() < 0.9:
                 m = n = shape[1] = shape[2] = 3
             size = m * n if 0 <= m * n <= 10000 else 10
-            image = array("H", drawn_row(chance, max(1, min(c, 65535)), chance.choice((size, size, size, size + 1))))
+            length = chance.choice((size, size, size, size + 1))
+            image = array("H", drawn_row(chance, max(1, min(c, 65535)), length))
             if image and chance.random() < 0.2:
                 image[chance.randrange(len(image))] = chance.choice((65534, max(0, min(c, 65535))))
-            first, end = chance.choice(((0, m), (0, m), (1, 0), (0, m + 1), (-1, 1), (0, 2**32 + 1)))
-            room = chance.choice((len(image), len(image), max(0, m * n - 1) if 0 <= m * n <= 10000 else 3))
+            ranges = ((0, m), (0, m), (1, 0), (0, m + 1), (-1, 1), (0, 2**32 + 1))
+            first, end = chance.choice(ranges)
+            short = max(0, m * n - 1) if 0 <= m * n <= 10000 else 3
+            room = chance.choice((len(image), len(image), short))
             engine = chance.choice(tuple(cm.Engine))
             output = array("H", [9]) * room
             natural = [2**70 if x < 0 else x for x in (*shape, first, end)]
-            limit, need = (4096, ref.level_need) if engine is cm.Engine.LEVEL else (65535, ref.reading_need)
-            due = ref.filter_refusal(limit, need, natural[:5], *natural[5:], image.tolist(), room, SPARE)
-            given = told(cm.filter, image, c, (r, t), (m, n), rows=range(first, end), engine=engine, output=output)
+            limit, need = self.LIMITS[engine]
+            lengths = image.tolist(), room, SPARE
+            due = ref.filter_refusal(limit, need, natural[:5], *natural[5:], *lengths)
+            given = told(
+                cm.filter, image, c, (r, t), (m, n), rows=range(first, end), engine=engine,
+                output=output,
+            )
             if due is None:
-                self.assertEqual(output[:m * n].tolist(), ref.filtered(shape, first, end, image, [9] * (m * n)), shape)
+                written = ref.filtered(shape, first, end, image, [9] * (m * n))
+                self.assertEqual(output[:m * n].tolist(), written, shape)
             else:
                 self.assertEqual(given, due, (shape, first, end, len(image), room, engine))
                 self.assertEqual(output, array("H", [9]) * room)
@@ -207,13 +248,17 @@ class Filter(unittest.TestCase):
 
     @staticmethod
     def odd(chance):
-        return chance.choice((0, 2, 4, 257, 1025, 4097, 8193, 65536, 2**32 + 1, 2**32 + 8, 2**64, -1, -3))
+        """A number outside a range."""
+        return chance.choice(
+            (0, 2, 4, 257, 1025, 4097, 8193, 65536, 2**32 + 1, 2**32 + 8, 2**64, -1, -3)
+        )
 
     def test_no_engine_named(self):
-        """Cycles beyond the level engine's are filtered with masks for which it would be the faster one."""
+        """Cycles too long for the level engine are filtered, with masks for which it is faster."""
         for c in (4096, 4097, 4462):
             row = array("H", [x * 37 % c for x in range(40)])
-            self.assertEqual(cm.filter(row, c, (5, 255)), cm.filter(row, c, (5, 255), engine="reading"))
+            due = cm.filter(row, c, (5, 255), engine="reading")
+            self.assertEqual(cm.filter(row, c, (5, 255)), due)
         self.assertEqual(told(cm.filter, array("H", [1]), 65536, (1, 255)), ref.Refusal(1, 0))
         with self.assertRaises(ValueError):
             cm.filter(array("H", [1]), 8, (1, 3), engine="other")
@@ -223,16 +268,21 @@ class Filter(unittest.TestCase):
         for rows in (range(0, 2, 2), (0, 1), 1):
             with self.assertRaises(TypeError):
                 cm.filter(image, 8, (1, 3), (2, 3), rows=rows)
-        self.assertEqual(told(cm.filter, image, 8, (1, 3), (2, 3), rows=range(2, 1)), ref.Refusal(5, 0))
-        self.assertEqual(cm.filter(image, 8, (1, 3), (2, 3), rows=range(1, 1)).tolist(), [cm.SILENT] * 6)
+        refused = told(cm.filter, image, 8, (1, 3), (2, 3), rows=range(2, 1))
+        self.assertEqual(refused, ref.Refusal(5, 0))
+        none = cm.filter(image, 8, (1, 3), (2, 3), rows=range(1, 1))
+        self.assertEqual(none.tolist(), [cm.SILENT] * 6)
 
     def test_threads(self):
         chance = random.Random(5)
         rows, columns = 64, 200
         image = array("H", drawn_row(chance, 360, rows * columns))
-        parts = [(array("H", [0]) * len(image), range(first, first + 16)) for first in range(0, rows, 16)]
+        parts = [
+            (array("H", [0]) * len(image), range(first, first + 16)) for first in range(0, rows, 16)
+        ]
+        call = image, 360, (3, 7), (rows, columns)
         threads = [
-            threading.Thread(target=cm.filter, args=(image, 360, (3, 7), (rows, columns)), kwargs={"rows": part, "output": output})
+            threading.Thread(target=cm.filter, args=call, kwargs={"rows": part, "output": output})
             for output, part in parts
         ]
         for thread in threads:
@@ -242,13 +292,15 @@ class Filter(unittest.TestCase):
         together = array("H")
         for output, part in parts:
             together += output[part.start * columns:part.stop * columns]
-        self.assertEqual(together, cm.filter(image, 360, (3, 7), (rows, columns)))
+        self.assertEqual(together, cm.filter(*call))
 
 
 class Records(unittest.TestCase):
     """Writer and reader."""
 
-    PAPER = bytes.fromhex("010002 0008 020004 00010005 030004 00010003 04000A 00010004000100070007 FF0000")
+    ROW = bytes.fromhex(
+        "010002 0008 020004 00010005 030004 00010003 04000A 00010004000100070007 FF0000"
+    )
 
     def read(self, data, room):
         """The reader with room for that many readings; what lies behind is kept."""
@@ -257,27 +309,29 @@ class Records(unittest.TestCase):
         if isinstance(said, ref.Refusal):
             self.assertEqual(output, array("H", [9]) * room)
             return said
-        self.assertEqual(output[len(said.readings):], array("H", [9]) * (room - len(said.readings)))
+        rest = output[len(said.readings):]
+        self.assertEqual(rest, array("H", [9]) * (room - len(said.readings)))
         return ref.Record(said.cycle, *said.size, *said.mask, said.readings.tolist())
 
     def both(self, data, room):
-        """The reader with room, and with room of its own, beside the reference."""
+        """The reader with room, and with room that it makes, beside the reference."""
         self.assertEqual(self.read(data, room), ref.read_record(data, room), (data, room))
         said, due = told(cm.read_record, data), ref.read_record(data, SPARE)
         if not isinstance(due, ref.Refusal):
             self.assertIsInstance(said.readings, array)
-            due = cm.Record(array("H", due.readings), due.cycle, (due.mask_rows, due.mask_columns), (due.rows, due.columns))
+            mask, size = (due.mask_rows, due.mask_columns), (due.rows, due.columns)
+            due = cm.Record(array("H", due.readings), due.cycle, mask, size)
         self.assertEqual(said, due, data)
 
     def test_every_cut_and_byte(self):
         for room in (0, 4, 5, 9):
-            for cut in range(len(self.PAPER) + 1):
-                self.both(self.PAPER[:cut], room)
-        for at in range(len(self.PAPER)):
+            for cut in range(len(self.ROW) + 1):
+                self.both(self.ROW[:cut], room)
+        for at in range(len(self.ROW)):
             for value in (0, 1, 2, 3, 4, 8, 10, 255, *random.Random(at).sample(range(256), 12)):
-                self.both(self.PAPER[:at] + bytes([value]) + self.PAPER[at + 1:], 5)
-        self.both(self.PAPER + b"\0", 5)
-        self.both(self.PAPER[:12] + bytes.fromhex("030000") + self.PAPER[19:], 5)
+                self.both(self.ROW[:at] + bytes([value]) + self.ROW[at + 1:], 5)
+        self.both(self.ROW + b"\0", 5)
+        self.both(self.ROW[:12] + bytes.fromhex("030000") + self.ROW[19:], 5)
 
     def test_round_trip(self):
         chance = random.Random(6)
@@ -295,10 +349,14 @@ class Records(unittest.TestCase):
         chance = random.Random(7)
         seen = set()
         for _ in range(4000):
-            c, m, n, r, t = shape = [chance.choice((x,) * 9 + (Filter.odd(chance),)) for x in drawn_shape(chance)]
-            length = m * n if 0 <= m * n <= 10000 else 10
-            image = array("H", drawn_row(chance, max(1, min(c, 65534)) + chance.choice((0, 0, 1)), length + chance.choice((0, 0, 0, 1))))
-            due = ref.write_record(*[2**70 if x < 0 else x for x in shape], image.tolist(), SPARE)
+            c, m, n, r, t = shape = [
+                chance.choice((x,) * 9 + (Filter.odd(chance),)) for x in drawn_shape(chance)
+            ]
+            length = (m * n if 0 <= m * n <= 10000 else 10) + chance.choice((0, 0, 0, 1))
+            most = max(1, min(c, 65534)) + chance.choice((0, 0, 1))
+            image = array("H", drawn_row(chance, most, length))
+            natural = [2**70 if x < 0 else x for x in shape]
+            due = ref.write_record(*natural, image.tolist(), SPARE)
             self.assertEqual(told(cm.write_record, image, c, (r, t), (m, n)), due, shape)
             seen.add(due.number if isinstance(due, ref.Refusal) else 0)
         self.assertEqual(seen, {0, 1, 2, 3, 6, 9})
@@ -316,7 +374,8 @@ class Live(unittest.TestCase):
     def test_against_the_reference(self):
         chance = random.Random(8)
         for _ in range(300):
-            c, t = chance.choice((1, 2, 8, 360, 512, chance.randint(1, 512))), 2 * chance.randint(0, 31) + 1
+            c = chance.choice((1, 2, 8, 360, 512, chance.randint(1, 512)))
+            t = 2 * chance.randint(0, 31) + 1
             window, due = cm.LiveWindow(c, t), ref.LiveWindow(c, t, [])
             for reading in drawn_row(chance, c, chance.randint(0, 90)):
                 if chance.random() < 0.05:
@@ -325,17 +384,25 @@ class Live(unittest.TestCase):
                     window.reset()
                     due.reset()
                 answer = due.push(reading if reading >= 0 else 2**70)
-                self.assertEqual(told(window.push, reading), None if answer == ref.FILLING else answer, (c, t))
+                answer = None if answer == ref.FILLING else answer
+                self.assertEqual(told(window.push, reading), answer, (c, t))
                 self.assertEqual(window.filled, due.members()[0])
 
     def test_refused(self):
-        for c, t in ((0, 3), (513, 3), (8, 0), (8, 2), (8, 65), (0, 2), (2**32 + 8, 3), (8, 2**32 + 3), (-1, 3), (8, -1)):
-            self.assertEqual(told(cm.LiveWindow, c, t), ref.live_refusal(2**70 if c < 0 else c, 2**70 if t < 0 else t), (c, t))
+        for c, t in (
+            (0, 3), (513, 3), (8, 0), (8, 2), (8, 65), (0, 2), (2**32 + 8, 3), (8, 2**32 + 3),
+            (-1, 3), (8, -1),
+        ):
+            due = ref.live_refusal(2**70 if c < 0 else c, 2**70 if t < 0 else t)
+            self.assertEqual(told(cm.LiveWindow, c, t), due, (c, t))
         with self.assertRaises(TypeError):
             cm.LiveWindow(8, 3).push(1.0)
 
-    def test_a_copy_is_a_window_of_its_own(self):
-        for made in (copy.copy, copy.deepcopy, lambda window: pickle.loads(pickle.dumps(window))):
+    def test_a_copy_is_a_window_by_itself(self):
+        def pickled(window):
+            return pickle.loads(pickle.dumps(window))
+
+        for made in (copy.copy, copy.deepcopy, pickled):
             window = cm.LiveWindow(8, 3)
             window.push(1)
             other = made(window)
@@ -359,13 +426,18 @@ class Buffers(unittest.TestCase):
     def test_taken(self):
         copied = bytes(self.ROW.tobytes())
         odd = bytearray(b"\0" + copied)
-        for readings in (self.ROW, memoryview(self.ROW), memoryview(copied).cast("H"), memoryview(bytearray(copied)).cast("H"),
-                         (ctypes.c_uint16 * 5)(*self.ROW), memoryview(odd)[1:].cast("H")):
+        for readings in (
+            self.ROW, memoryview(self.ROW), memoryview(copied).cast("H"),
+            memoryview(bytearray(copied)).cast("H"), (ctypes.c_uint16 * 5)(*self.ROW),
+            memoryview(odd)[1:].cast("H"),
+        ):
             self.assertEqual(cm.filter(readings, 8, (1, 3)), self.DUE)
             self.assertEqual(cm.drift(8, readings), -2)
-            self.assertEqual(cm.write_record(readings, 8, (1, 3)), Records.PAPER)
-        for data in (Records.PAPER, bytearray(Records.PAPER), memoryview(Records.PAPER), array("B", Records.PAPER),
-                     (ctypes.c_uint8 * 35)(*Records.PAPER), (ctypes.c_char * 35)(*Records.PAPER)):
+            self.assertEqual(cm.write_record(readings, 8, (1, 3)), Records.ROW)
+        for data in (
+            Records.ROW, bytearray(Records.ROW), memoryview(Records.ROW), array("B", Records.ROW),
+            (ctypes.c_uint8 * 35)(*Records.ROW), (ctypes.c_char * 35)(*Records.ROW),
+        ):
             self.assertEqual(cm.read_record(data).readings, self.ROW)
 
     def test_dimensions(self):
@@ -375,7 +447,9 @@ class Buffers(unittest.TestCase):
         for size in ((1, 10), (5, 2)):
             with self.assertRaises(ValueError):
                 cm.filter(image, 8, (1, 3), size)
-        for wrong in ({"mask": 15}, {"mask": (1, 3, 5)}, {"mask": (1, 3), "size": 10}, {"mask": (1, 3.0)}):
+        for wrong in (
+            {"mask": 15}, {"mask": (1, 3, 5)}, {"mask": (1, 3), "size": 10}, {"mask": (1, 3.0)},
+        ):
             with self.assertRaises(TypeError):
                 cm.filter(self.ROW, 8, **wrong)
         wide = memoryview(bytearray(24)).cast("H", (2, 6))
@@ -391,29 +465,41 @@ class Buffers(unittest.TestCase):
         with self.assertRaises(TypeError):
             cm.filter(deep, 8, (1, 3))
         room = memoryview(bytearray(12)).cast("H", (2, 3))
-        self.assertEqual(cm.read_record(Records.PAPER, room).readings.tolist(), self.ROW.tolist())
+        self.assertEqual(cm.read_record(Records.ROW, room).readings.tolist(), self.ROW.tolist())
 
     def test_no_buffer_of_readings(self):
-        signed, wide, copied = array("h", self.ROW), array("I", self.ROW), self.ROW.tobytes()
-        for readings in (self.ROW.tolist(), tuple(self.ROW), "14177", 5, None, copied, bytearray(copied), signed, wide, array("d", self.ROW),
-                         memoryview(self.ROW)[::2], memoryview(self.ROW)[::-1], ctypes.c_uint16(4), (ctypes.c_uint16.__ctype_be__ * 5)()):
-            for call in (lambda x: cm.filter(x, 8, (1, 3)), lambda x: cm.drift(8, x), lambda x: cm.write_record(x, 8, (1, 3))):
+        copied = self.ROW.tobytes()
+        for readings in (
+            self.ROW.tolist(), tuple(self.ROW), "14177", 5, None, copied, bytearray(copied),
+            array("h", self.ROW), array("I", self.ROW), array("d", self.ROW),
+            memoryview(self.ROW)[::2], memoryview(self.ROW)[::-1], ctypes.c_uint16(4),
+            (ctypes.c_uint16.__ctype_be__ * 5)(),
+        ):
+            for call in (
+                lambda x: cm.filter(x, 8, (1, 3)), lambda x: cm.drift(8, x),
+                lambda x: cm.write_record(x, 8, (1, 3)),
+            ):
                 with self.assertRaises(TypeError) as caught:
                     call(readings)
                 self.assertNotIn("\n", str(caught.exception))
 
     def test_no_buffer_of_bytes(self):
-        for data in ("0100", 7, None, [1, 0, 2], self.ROW, array("b", b"12"), memoryview(Records.PAPER)[::2]):
+        for data in (
+            "0100", 7, None, [1, 0, 2], self.ROW, array("b", b"12"), memoryview(Records.ROW)[::2],
+        ):
             with self.assertRaises(TypeError):
                 cm.read_record(data)
 
     def test_no_output(self):
-        for output in (bytes(10), memoryview(self.ROW).toreadonly(), memoryview(bytes(10)).cast("H"), bytearray(10), array("h", self.ROW),
-                       array("I", self.ROW), [0] * 5, memoryview(array("H", [0]) * 10)[::2], memoryview(bytearray(11))[1:].cast("H")):
+        for output in (
+            bytes(10), memoryview(self.ROW).toreadonly(), memoryview(bytes(10)).cast("H"),
+            bytearray(10), array("h", self.ROW), array("I", self.ROW), [0] * 5,
+            memoryview(array("H", [0]) * 10)[::2], memoryview(bytearray(11))[1:].cast("H"),
+        ):
             with self.assertRaises(TypeError):
                 cm.filter(self.ROW, 8, (1, 3), output=output)
             with self.assertRaises(TypeError):
-                cm.read_record(Records.PAPER, output)
+                cm.read_record(Records.ROW, output)
 
     def test_overlaps(self):
         memory = array("H", [1, 4, 1, 7, 7, 0, 0, 0, 0, 0])
@@ -423,17 +509,21 @@ class Buffers(unittest.TestCase):
                 cm.filter(parts[:5], 8, (1, 3), output=output)
         cm.filter(parts[:5], 8, (1, 3), output=parts[5:])
         self.assertEqual(memory, self.ROW + self.DUE)
-        data = bytearray(Records.PAPER + b"\0")
+        data = bytearray(Records.ROW + b"\0")
         with self.assertRaises(ValueError):
             cm.read_record(memoryview(data)[:35], memoryview(data)[24:34].cast("H"))
-        self.assertEqual(data, Records.PAPER + b"\0")
+        self.assertEqual(data, Records.ROW + b"\0")
 
     def test_buffers_are_given_back(self):
-        """What was lent can grow again, after a result and after a refusal, also while that is looked at."""
-        readings, output, data = array("H", [0, 8]), array("H", [9]) * 2, bytearray(Records.PAPER[:34])
+        """What was lent can grow again, after a result, and after a refusal that is looked at."""
+        readings, output = array("H", [0, 8]), array("H", [9]) * 2
+        data = bytearray(Records.ROW[:34])
         refusals = 0
-        for call in (lambda: cm.filter(readings, 8, (1, 3), output=output), lambda: cm.drift(8, readings),
-                     lambda: cm.write_record(readings, 8, (1, 3)), lambda: cm.read_record(data), lambda: cm.read_record(data, output)):
+        for call in (
+            lambda: cm.filter(readings, 8, (1, 3), output=output), lambda: cm.drift(8, readings),
+            lambda: cm.write_record(readings, 8, (1, 3)), lambda: cm.read_record(data),
+            lambda: cm.read_record(data, output),
+        ):
             try:
                 call()
             except cm.Refused:
@@ -452,7 +542,8 @@ class Buffers(unittest.TestCase):
             self.assertEqual(told(cm.filter, readings, 8, (1, 3), (1, 1)), ref.Refusal(6, 0))
             self.assertEqual(told(cm.drift, 8, readings), ref.Refusal(2, 0))
             self.assertEqual(told(cm.write_record, readings, 8, (1, 3)), ref.Refusal(2, 0))
-        self.assertEqual(told(cm.filter, self.ROW, 8, (1, 3), output=array("H")), ref.Refusal(7, 0))
+        refused = told(cm.filter, self.ROW, 8, (1, 3), output=array("H"))
+        self.assertEqual(refused, ref.Refusal(7, 0))
         self.assertEqual(told(cm.read_record, b"", array("H")), ref.Refusal(10, 0))
 
 
@@ -465,19 +556,23 @@ class NumPy(unittest.TestCase):
         output = numpy.empty_like(image)
         self.assertIs(cm.filter(image, 8, (1, 3), output=output), output)
         self.assertEqual(output.tolist(), [[1, 1, 1, 7, 7], [0, 0, 0, 0, 0]])
-        self.assertEqual(cm.filter(image, numpy.int64(8), (numpy.uint8(1), 3)).tolist(), output.ravel().tolist())
+        due = output.ravel().tolist()
+        self.assertEqual(cm.filter(image, numpy.int64(8), (numpy.uint8(1), 3)).tolist(), due)
         record = cm.read_record(cm.write_record(image, 8, (1, 3)))
-        self.assertTrue((numpy.frombuffer(record.readings, numpy.uint16).reshape(record.size) == image).all())
+        back = numpy.frombuffer(record.readings, numpy.uint16).reshape(record.size)
+        self.assertTrue((back == image).all())
         image.flags.writeable = False
-        self.assertEqual(cm.filter(image, 8, (1, 3)).tolist(), output.ravel().tolist())
+        self.assertEqual(cm.filter(image, 8, (1, 3)).tolist(), due)
         self.assertEqual(cm.drift(8, output[0]), -2)
 
     def test_no_images(self):
         image = numpy.array([[1, 4, 1], [7, 7, 0]], dtype=numpy.uint16)
         kept = numpy.full_like(image, 9)
         kept.flags.writeable = False
-        for wrong in (image.astype(numpy.int16), image.astype(int), image.astype(float), image.astype(numpy.uint8), image.astype(">u2"),
-                      image.T, image[:, ::2], image[0, 0]):
+        for wrong in (
+            image.astype(numpy.int16), image.astype(int), image.astype(float),
+            image.astype(numpy.uint8), image.astype(">u2"), image.T, image[:, ::2], image[0, 0],
+        ):
             with self.assertRaises(TypeError):
                 cm.filter(wrong, 8, (1, 3))
         masked = numpy.ma.array([1, 4, 1], mask=[0, 1, 0], dtype=numpy.uint16)
@@ -485,50 +580,64 @@ class NumPy(unittest.TestCase):
             with self.assertRaises(TypeError):
                 call()
         self.assertEqual(cm.drift(8, masked.filled(cm.SILENT)), 0)
-        for output in (kept, kept.astype(numpy.int16), numpy.zeros((3, 2), numpy.uint16).T, numpy.zeros((3, 2), numpy.uint16)):
+        tall = numpy.zeros((3, 2), numpy.uint16)
+        for output in (kept, kept.astype(numpy.int16), tall.T, tall):
             with self.assertRaises(TypeError):
                 cm.filter(image, 8, (1, 3), output=output)
 
 
 class Readme(unittest.TestCase):
-    """The examples for Python in README.md and bindings/README.md do what the comments beside them say."""
+    """The Python examples of README.md and bindings/README.md do what their comments say."""
 
     def test_examples(self):
         here = os.getcwd()
         self.addCleanup(os.chdir, here)
         os.chdir(ROOT)
         for names in (("README.md",), ("bindings", "README.md")):
-            (block,) = re.findall(r"```python\n(.*?)```", text(*names), re.S)
-            lines, told_here = block.split("\n"), 0
-            variables = {}
-            for node in ast.parse(block).body:
-                due = lines[node.end_lineno - 1].partition("  #")[2].strip().rstrip(". ")
-                value = self.value(node, variables)
-                if due.startswith(("array(", "[", "raises")) or re.match(r"-?[0-9]+$", due):
-                    self.assertEqual(value[:len(due)], due)
-                    told_here += 1
-            self.assertGreater(told_here, 1)
+            blocks = re.findall(r"```python\n(.*?)```", text(*names), re.S)
+            variables, told_here = {}, 0
+            for block in blocks:
+                told_here += self.run_block(block, variables)
+            self.assertGreater(told_here, 0, names)
+
+    def run_block(self, block, variables):
+        """Runs a block; how many of its lines have a comment that begins as a result does."""
+        lines, told_here = block.split("\n"), 0
+        for node in ast.parse(block).body:
+            due = lines[node.end_lineno - 1].partition("  #")[2].strip().rstrip(". ")
+            value = self.value(node, variables)
+            if due.startswith(("array(", "[", "raises")) or re.match(r"-?[0-9]+$", due):
+                self.assertEqual(value[:len(due)], due)
+                told_here += 1
+        return told_here
 
     @staticmethod
     def value(node, variables):
-        """What a statement gives: the value of an expression or of what it assigns, or a refusal."""
+        """The value of an expression, or of what a statement assigns, or a refusal, as text."""
         try:
             with contextlib.redirect_stdout(io.StringIO()):
                 if isinstance(node, ast.Expr):
-                    return repr(eval(compile(ast.Expression(node.value), "README", "eval"), variables))
+                    code = compile(ast.Expression(node.value), "README", "eval")
+                    return repr(eval(code, variables))
                 exec(compile(ast.Module([node], []), "README", "exec"), variables)
         except cm.Refused as refused:
             return f"raises Refused: {refused}"
-        return repr(variables.get(node.targets[0].id)) if isinstance(node, ast.Assign) else ""
+        if isinstance(node, ast.Assign) and isinstance(node.targets[0], ast.Name):
+            return repr(variables.get(node.targets[0].id))
+        return ""
 
 
 class Library(unittest.TestCase):
     """How the library is found."""
 
     def called(self, folder):
-        """What Python says at the end of a call with the library of a folder, where the system has one too."""
-        environment = {**os.environ, "CIRCLE_MEDIAN_LIB": folder, "LD_LIBRARY_PATH": os.path.dirname(cm._library()._name)}
-        run = subprocess.run([sys.executable, "-c", "import circle_median; circle_median.distance(8, 1, 2)"], cwd=HERE, env=environment, capture_output=True, text=True)
+        """The status and the last line of a call with a folder's library, where the system has one
+        too."""
+        system = os.path.dirname(cm._library()._name)
+        environment = {**os.environ, "CIRCLE_MEDIAN_LIB": folder, "LD_LIBRARY_PATH": system}
+        program = "import circle_median; circle_median.distance(8, 1, 2)"
+        command = [sys.executable, "-c", program]
+        run = subprocess.run(command, cwd=HERE, env=environment, capture_output=True, text=True)
         return run.returncode, run.stderr.strip().split("\n")[-1]
 
     def test_missing(self):

@@ -1,5 +1,5 @@
-//! Links the proved library, libcircle_median.a, from the folder that CIRCLE_MEDIAN_LIB names, or from where the
-//! project's toolchain puts it. A name that is not absolute counts from this crate's folder.
+//! Links the proved library, libcircle_median.a: from the folder that CIRCLE_MEDIAN_LIB names, a path from this crate's
+//! folder if it is not absolute, or else from where `rt lib` puts it in the repository.
 
 use std::env;
 use std::path::PathBuf;

@@ -2,18 +2,20 @@
 
 use std::ops::Range;
 
+use crate::refusal::answered;
 use crate::{sys, Refusal, Shape};
 
-/// The engine that filters. Both write the same rows; they differ in the cycles that they take and in the work memory
-/// that they need, which [`work_len`](crate::work_len) tells.
+/// The engine that filters. Both write the same numbers. They differ in time, in the cycles that they take and in the
+/// work memory that they need, which [`work_len`](crate::work_len) tells: the time of the level engine grows with the
+/// cycle, that of the reading engine with the mask. SPECIFICATION, "Engines".
 ///
 /// ```
-/// use circle_median::{work_len, Engine, Shape};
+/// use circle_median::{work_len, Engine, Shape, LEVEL_CYCLE};
 ///
 /// // The engine that needs less work memory, of those that take the cycle.
 /// fn choose(shape: Shape) -> Engine {
 ///     let less = work_len(Engine::Level, shape) < work_len(Engine::Reading, shape);
-///     if shape.cycle <= 4_096 && less { Engine::Level } else { Engine::Reading }
+///     if shape.cycle <= LEVEL_CYCLE && less { Engine::Level } else { Engine::Reading }
 /// }
 ///
 /// let shape = Shape { cycle: 360, rows: 8, columns: 960, mask_rows: 1, mask_columns: 15 };
@@ -21,18 +23,29 @@ use crate::{sys, Refusal, Shape};
 /// ```
 #[derive(Debug, Clone, Copy, PartialEq, Eq, Hash)]
 pub enum Engine {
-    /// Weighs every tick of the cycle; takes cycles up to 4,096.
+    /// Weighs every tick of the cycle; takes cycles up to [`LEVEL_CYCLE`](crate::LEVEL_CYCLE).
     Level,
     /// Weighs the readings of the window; takes every cycle.
     Reading,
 }
 
-/// Filters the rows of a range. Refusals: 1, 2, 3, 5 to 9, in this order.
+/// Filters rows of an image: each reading is replaced by the chosen phase of its window. SPECIFICATION, "Filters".
 ///
-/// `input` has rows · columns readings, row by row, each a tick or [`SILENT`](crate::SILENT). `output` is at least as
-/// long; the rows of the range are written, each at its own spot of the whole image, and the rest stays. `work` has at
-/// least [`work_len`](crate::work_len) numbers; as many are zero at the end. What `output` and `work` held before makes
-/// no difference. At its edges the image is mirrored, the edge repeated, as often as the mask needs.
+/// - `rows`: the rows to filter; none of an empty range
+/// - `input`: the image, exactly rows · columns readings, row by row, each a tick or [`SILENT`](crate::SILENT)
+/// - `output`: at least rows · columns numbers
+/// - `work`: at least [`work_len`](crate::work_len) numbers
+///
+/// Afterwards each row of the range stands in `output` at its own place in the whole image, and the rest of `output` is
+/// as before. The first [`work_len`](crate::work_len) numbers of `work` are 0, also where there was no row to filter, and
+/// the rest is as before. What `output` and `work` held before makes no difference to that.
+///
+/// At the edges the image is mirrored, the edge repeated, as often as the mask needs.
+///
+/// # Errors
+///
+/// In this order: [`Refusal::Cycle`], [`Refusal::Size`], [`Refusal::Mask`], [`Refusal::Rows`], [`Refusal::Input`],
+/// [`Refusal::Buffer`], [`Refusal::Work`], [`Refusal::Reading`]. All of the image is tested, whatever the rows.
 ///
 /// ```
 /// use circle_median::{filter, work_len, Engine, Refusal, Shape};
@@ -45,7 +58,7 @@ pub enum Engine {
 /// assert_eq!(output, [9, 9, 9, 4, 1, 7]);
 ///
 /// let refused = filter(Engine::Reading, shape, 1..3, &input, &mut output, &mut work);
-/// assert_eq!(refused, Err(Refusal { number: 5, place: 0 }));
+/// assert_eq!(refused, Err(Refusal::Rows));
 /// # Ok::<(), Refusal>(())
 /// ```
 pub fn filter(
@@ -78,10 +91,14 @@ pub fn filter(
             work.len(),
         )
     };
-    Refusal::or(answer.number, answer.place, ())
+    answered(answer.number, answer.place, ())
 }
 
-/// [`filter`] by the level engine.
+/// [`filter`] by the level engine, which needs cycle · (columns + 1) numbers of work memory.
+///
+/// # Errors
+///
+/// As of [`filter`]; a cycle above [`LEVEL_CYCLE`](crate::LEVEL_CYCLE) is refused.
 ///
 /// ```
 /// use circle_median::{level, Shape};
@@ -102,7 +119,11 @@ pub fn level(
     filter(Engine::Level, shape, rows, input, output, work)
 }
 
-/// [`filter`] by the reading engine.
+/// [`filter`] by the reading engine, which needs mask_rows · mask_columns · (columns + 1) numbers of work memory.
+///
+/// # Errors
+///
+/// As of [`filter`].
 ///
 /// ```
 /// use circle_median::{reading, Shape};

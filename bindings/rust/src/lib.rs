@@ -1,12 +1,14 @@
 //! The circle median of wake phases: safe calls of the proved library.
 //!
-//! A cycle has C ticks, and a reading is one of them, or [`SILENT`] where a wake was not heard. The filter replaces each
-//! reading of an image by the heard reading of its window with the least sum of distances, around the cycle, to all that
-//! are heard there; of several it takes the one closest to the window's centre, and of two equally close ones the one
-//! ahead. A [`LiveWindow`] does so wake by wake, with no image stored.
+//! A shelf label wakes once in a cycle. A reading is the tick at which it did, from 0 to cycle - 1, or [`SILENT`] where
+//! the wake was not heard. The filter gives each reading of an image, labels by wakes, the chosen phase of its window:
+//! the heard reading of the window with the least sum of distances, round the cycle, to all that are heard there; of
+//! several the one nearest to the window's centre, and of two as near the one ahead of it. [`filter`] does so for an
+//! image that is stored, and a [`LiveWindow`] for one label, wake by wake. The rules are those of docs/SPECIFICATION.md,
+//! which the comments cite by headings.
 //!
-//! Every call returns its result or one [`Refusal`], and a refused call has changed no memory. No argument makes a
-//! call panic. All memory is the caller's; only [`filter_parallel`] allocates.
+//! Each call returns its result or one [`Refusal`]. A refused call has changed no memory. No argument makes a call panic.
+//! All memory is the caller's; [`filter_parallel`] alone allocates some.
 //!
 //! ```
 //! use circle_median::{drift, filter, work_len, Engine, Shape};
@@ -23,6 +25,7 @@
 
 mod cycle;
 mod filter;
+mod limits;
 mod live;
 mod parallel;
 mod record;
@@ -32,18 +35,20 @@ pub mod sys;
 
 pub use cycle::{distance, drift, slot, step};
 pub use filter::{filter, level, reading, Engine};
+pub use limits::{
+    LEVEL_CYCLE, LIVE_CYCLE, LIVE_LENGTH, LONGEST_CYCLE, MOST_COLUMNS, MOST_MASK_COLUMNS, MOST_MASK_ROWS, MOST_ROWS,
+};
 pub use live::{Live, LiveWindow};
 pub use parallel::filter_parallel;
 pub use record::{read, write};
 pub use refusal::Refusal;
 pub use shape::{record_len, work_len, Shape};
 
-/// The reading of a wake that was not heard. Images, rows, records and live windows may have it on every cycle; no
-/// cycle has it as a tick, so [`distance`], [`step`] and [`slot`] refuse it.
+/// The reading of a wake that was not heard, on every cycle. SPECIFICATION, "Silence".
 ///
-/// A silent reading has no distance and adds to no sum. Where the centre of a window is silent, the first heard reading
-/// of the window, row by row, takes its part in the choice among equals; where none is heard, the output is silent.
-/// [`drift`] passes over silent entries.
+/// It has no distance and adds to no sum. Where it is the centre of a window, the first reading that was heard there, row
+/// by row, stands in for it; where all of the window is silent, so is the phase. [`drift`] passes over it. It is a tick of
+/// no cycle, so [`distance`], [`step`] and [`slot`] refuse it.
 ///
 /// ```
 /// use circle_median::{distance, drift, level, Refusal, Shape, SILENT};
@@ -53,7 +58,12 @@ pub use shape::{record_len, work_len, Shape};
 /// level(shape, 0..1, &[1, SILENT, 7, SILENT, SILENT, SILENT, 3], &mut output, &mut [0; 64])?;
 /// assert_eq!(output, [1, 1, 7, 7, SILENT, 3, 3]);
 /// assert_eq!(drift(8, &output), Ok(-6));
-/// assert_eq!(distance(8, 1, SILENT), Err(Refusal { number: 9, place: 1 }));
+/// assert_eq!(distance(8, 1, SILENT), Err(Refusal::Reading(1)));
 /// # Ok::<(), Refusal>(())
 /// ```
 pub const SILENT: u16 = 65_535;
+
+/// The Rust examples of bindings/README.md are tests.
+#[cfg(doctest)]
+#[doc = include_str!("../../README.md")]
+struct Readme;

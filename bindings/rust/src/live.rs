@@ -1,17 +1,17 @@
 //! The live window.
 
+use crate::refusal::answered;
 use crate::{sys, Refusal, SILENT};
 
-/// A live window: the filter wake by wake for one label, with no stored image.
+/// A live window: the filter for one label, wake by wake, where no image is stored. SPECIFICATION, "Live window".
 ///
-/// From fresh, the first length − 1 readings are each answered by [`Live::Filling`], and no others are. From then on
-/// each is answered by the phase of the last length readings, the middle one being the centre. [`SILENT`] readings
-/// count among them; refused ones do not. So for a row of up to 8,192 the answer to reading k, for k from length − 1
-/// on, is what [`filter`](crate::filter) writes at column k − length / 2, with this row alone and a mask of 1 by
-/// length.
+/// A reading that is pushed is answered by the chosen phase of the last `length` readings, of which the middle one is the
+/// centre, and by [`Live::Filling`] while fewer have come. [`SILENT`] readings are counted like others, refused ones are
+/// not. The phase is what [`filter`](crate::filter) writes in the same row, under a mask of 1 by `length`, for the wake
+/// that came `length` / 2 wakes before.
 ///
-/// Only [`new`](LiveWindow::new) makes a window, and a clone goes on by itself. Two windows are equal if they have the
-/// same cycle and length and hold the same readings.
+/// [`new`](LiveWindow::new) alone makes a window, and a clone is a window by itself. Two windows are equal if they have
+/// the same cycle and length and hold the same readings.
 ///
 /// ```
 /// use circle_median::{Live, LiveWindow, Refusal, SILENT};
@@ -20,8 +20,8 @@ use crate::{sys, Refusal, SILENT};
 /// let answers: Result<Vec<Live>, Refusal> = [1, 4, 1, 7, 7].into_iter().map(|reading| window.push(reading)).collect();
 /// assert_eq!(answers?, [Live::Filling, Live::Filling, Live::Phase(1), Live::Phase(1), Live::Phase(7)]);
 ///
-/// // A refused reading leaves the window as it was.
-/// assert_eq!(window.push(8), Err(Refusal { number: 9, place: 0 }));
+/// // A refused reading changes nothing.
+/// assert_eq!(window.push(8), Err(Refusal::Reading(0)));
 /// assert_eq!(window.push(SILENT), Ok(Live::Phase(7)));
 ///
 /// window.reset();
@@ -40,11 +40,11 @@ pub struct LiveWindow {
 /// What a reading that was pushed is answered.
 #[derive(Debug, Clone, Copy, PartialEq, Eq, Hash)]
 pub enum Live {
-    /// There are fewer readings so far than the window is long.
+    /// Fewer readings have come than the window is long.
     Filling,
-    /// The phase of the window.
+    /// The chosen phase of the window, a tick.
     Phase(u16),
-    /// None of the window is heard.
+    /// No reading of the window was heard.
     Silent,
 }
 
@@ -60,22 +60,31 @@ impl Live {
 }
 
 impl LiveWindow {
-    /// A fresh window of a cycle from 1 to 512 and an odd length from 1 to 63. Refusals: 1, 3.
+    /// A window without readings, of a cycle up to [`LIVE_CYCLE`](crate::LIVE_CYCLE) ticks and of an odd length up to
+    /// [`LIVE_LENGTH`](crate::LIVE_LENGTH) wakes.
+    ///
+    /// # Errors
+    ///
+    /// In this order: [`Refusal::Cycle`], [`Refusal::Mask`] for the length.
     ///
     /// ```
     /// use circle_median::{LiveWindow, Refusal};
     ///
     /// assert!(LiveWindow::new(512, 63).is_ok());
-    /// assert_eq!(LiveWindow::new(513, 64), Err(Refusal { number: 1, place: 0 }));
-    /// assert_eq!(LiveWindow::new(512, 64), Err(Refusal { number: 3, place: 0 }));
+    /// assert_eq!(LiveWindow::new(513, 64), Err(Refusal::Cycle));
+    /// assert_eq!(LiveWindow::new(512, 64), Err(Refusal::Mask));
     /// ```
     pub fn new(cycle: u32, length: u32) -> Result<Self, Refusal> {
         let (mut readings, mut sums) = ([0; sys::WINDOW], [0; sys::WINDOW]);
         let answer = sys::circle_median_window_fresh(cycle, length, &mut readings, &mut sums);
-        Refusal::or(answer.number, answer.place, LiveWindow { cycle, length, filled: 0, readings, sums })
+        answered(answer.number, answer.place, LiveWindow { cycle, length, filled: 0, readings, sums })
     }
 
-    /// Pushes a reading. A refused one leaves the window as it was, and does not count. Refusals: 9, with place 0.
+    /// Pushes a reading, and takes off the oldest one where the window is full.
+    ///
+    /// # Errors
+    ///
+    /// [`Refusal::Reading`] at 0 if the reading is neither a tick nor [`SILENT`]. The window is then as before.
     ///
     /// ```
     /// use circle_median::{Live, LiveWindow, SILENT};
@@ -96,10 +105,10 @@ impl LiveWindow {
             &mut self.sums,
         );
         self.filled = answer.filled;
-        Refusal::or(answer.number, answer.place, Live::of(answer.value))
+        answered(answer.number, answer.place, Live::of(answer.value))
     }
 
-    /// Makes the window fresh again, of the same cycle and length, which are never refused since they were accepted.
+    /// Takes all readings off the window, whose cycle and length stay. It is never refused.
     ///
     /// ```
     /// use circle_median::{Live, LiveWindow};
@@ -115,12 +124,12 @@ impl LiveWindow {
         *self = LiveWindow::new(self.cycle, self.length).expect("the cycle and the length of a window are accepted");
     }
 
-    /// Ticks of the cycle: the paper's C.
+    /// The ticks of the cycle.
     pub fn cycle(&self) -> u32 {
         self.cycle
     }
 
-    /// How many of the last readings count: the paper's T.
+    /// How many of the last readings count.
     pub fn length(&self) -> u32 {
         self.length
     }

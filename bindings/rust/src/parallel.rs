@@ -1,8 +1,8 @@
-//! Row ranges filtered in parallel.
+//! Rows filtered in several threads.
 //!
 //! A call of the library is lent the whole output and writes the rows of its range, and no two threads can be lent
 //! the same output. So each thread filters a part of the image by a call of its own, with memory of its own: its rows
-//! and those that their windows reach. Then it copies its rows to their spot, a part of the output that is its alone.
+//! and those that their windows reach. Then it copies its rows to their place, a part of the output that is its alone.
 
 use std::num::NonZeroUsize;
 use std::ops::Range;
@@ -10,16 +10,17 @@ use std::thread;
 
 use crate::{filter, work_len, Engine, Refusal, Shape};
 
-/// The refusal of a call whose work memory is too short.
-const WORK_TOO_SHORT: u32 = 8;
-
-/// Filters the rows of a range in up to `threads` threads, the calling one included. What is written is what one call
-/// of [`filter`] writes, and refusals are those of one call with enough work memory: 1 to 7 and 9.
+/// Filters rows of an image in up to `threads` threads, of which the calling one is one. What is written is what one
+/// call of [`filter`] writes; `rows`, `input` and `output` are as there.
 ///
-/// Memory: each thread allocates [`work_len`] numbers of 32 bits, and as many of 16 bits as its rows have and the
-/// mask_rows / 2 rows on either side of them. Time: before the threads start, one call on an empty range tests all
-/// readings and clears one work memory. Each thread sets up its first row afresh, so a thread should have many more
+/// Memory: each thread allocates [`work_len`] numbers of 32 bits, and as many of 16 bits as there are in its rows and in
+/// the mask_rows / 2 rows on either side of them. Time: before the threads start, one call on an empty range tests all
+/// readings and clears one work memory; then each thread sets up its first row afresh, so a thread should have many more
 /// rows than the mask.
+///
+/// # Errors
+///
+/// As of [`filter`] with enough work memory.
 ///
 /// # Panics
 ///
@@ -77,12 +78,12 @@ fn accept(
     input: &[u16],
     output: &mut [u16],
 ) -> Result<Vec<u32>, Refusal> {
-    // A range in order is refused exactly if the empty one at its end is; a range that is not is refused itself.
+    // A range that is in order is refused exactly if the empty one at its end is; one that is not is refused itself.
     let tested = rows.start.max(rows.end)..rows.end;
-    // Without work memory all tests before that one are made, so that no memory is allocated for a bad shape.
+    // Without work memory all tests before that one are made, so that none is allocated for a shape that is refused.
     match filter(engine, shape, tested.clone(), input, output, &mut []) {
-        Err(refusal) if refusal.number != WORK_TOO_SHORT => return Err(refusal),
-        _ => (),
+        Ok(()) | Err(Refusal::Work) => (),
+        Err(refusal) => return Err(refusal),
     }
     let mut work = vec![0; work_len(engine, shape)];
     filter(engine, shape, tested, input, output, &mut work)?;
@@ -91,9 +92,9 @@ fn accept(
 
 /// Filters the rows of an accepted image from `first` on, as many as `output` holds.
 ///
-/// The call is on these rows and the `reach` rows on either side, or up to the image's edge. So a window is mirrored
-/// where it is in the whole image, and has the same readings in the same order, the one that stands in for a silent
-/// centre included: a window that is mirrored more than once reaches past all rows, and its part is the whole image.
+/// The call is on these rows and the `reach` rows on either side, or up to the image's edge. So each window is mirrored
+/// at the edges of the whole image alone, and has the same readings in the same order. A window that is mirrored more
+/// than once reaches past all rows, and its part is the whole image.
 fn filter_part(engine: Engine, shape: Shape, first: u32, input: &[u16], output: &mut [u16], work: &mut [u32]) {
     let columns = shape.columns as usize;
     let reach = shape.mask_rows / 2;

@@ -1,10 +1,20 @@
 //! The bench record.
 
+use crate::refusal::answered;
 use crate::{sys, Refusal, Shape};
 
-/// Writes a record to the front of `bytes` and returns its length, which is [`record_len`](crate::record_len); the rest
-/// of `bytes` stays. `readings` are rows · columns, row by row; [`SILENT`](crate::SILENT) is written as FF FF.
-/// Refusals: 1, 2, 3, 6, 7, 9, in this order.
+/// Writes a bench record and returns its length in bytes, which is [`record_len`](crate::record_len).
+/// SPECIFICATION, "Writer".
+///
+/// - `readings`: the image, exactly rows · columns readings, row by row; [`SILENT`](crate::SILENT) is written as FF FF
+/// - `bytes`: at least [`record_len`](crate::record_len) bytes
+///
+/// Afterwards the record is at the front of `bytes`, and what is behind it is as before.
+///
+/// # Errors
+///
+/// In this order: [`Refusal::Cycle`], [`Refusal::Size`], [`Refusal::Mask`], [`Refusal::Input`], [`Refusal::Buffer`],
+/// [`Refusal::Reading`].
 ///
 /// ```
 /// use circle_median::{record_len, write, Shape};
@@ -30,13 +40,23 @@ pub fn write(shape: Shape, readings: &[u16], bytes: &mut [u8]) -> Result<usize, 
             bytes.len(),
         )
     };
-    Refusal::or(answer.number, answer.place, answer.value as usize)
+    answered(answer.number, answer.place, answer.value as usize)
 }
 
-/// Reads the record that fills `bytes`: returns its shape, and its rows · columns readings stand at the front of
-/// `readings`, the rest of which stays; FF FF is [`SILENT`](crate::SILENT) on every cycle, and an empty mask field is a
-/// mask of 1 by 7. The fields are tested one by one, so refusals come in the order of the bytes: any number but 4, 5, 6
-/// and 8.
+/// Reads the bench record that fills `bytes`, and returns its shape; an empty mask field is a mask of 1 by 7.
+/// SPECIFICATION, "Reader".
+///
+/// - `readings`: room for at least as many readings as the record has
+///
+/// Afterwards the rows · columns readings are at the front of `readings`, FF FF as [`SILENT`](crate::SILENT), and what is
+/// behind them is as before.
+///
+/// # Errors
+///
+/// Field by field, as the bytes come. In each field: [`Refusal::Cut`] if fewer than three bytes are left,
+/// [`Refusal::Tag`], [`Refusal::Length`], [`Refusal::Cut`] if the body is not all there; then by what the body holds
+/// [`Refusal::Cycle`]; [`Refusal::Size`]; [`Refusal::Mask`] and then [`Refusal::Buffer`]; and, for each row in turn,
+/// [`Refusal::Reading`]. Behind the end field: [`Refusal::Trailing`].
 ///
 /// ```
 /// use circle_median::{read, write, Refusal, Shape, SILENT};
@@ -48,7 +68,7 @@ pub fn write(shape: Shape, readings: &[u16], bytes: &mut [u8]) -> Result<usize, 
 /// let mut readings = [0; 5];
 /// assert_eq!(read(&bytes, &mut readings)?, shape);
 /// assert_eq!(readings, [1, 4, SILENT, 7, 7]);
-/// assert_eq!(read(&bytes[..30], &mut readings), Err(Refusal { number: 10, place: 19 }));
+/// assert_eq!(read(&bytes[..30], &mut readings), Err(Refusal::Cut(19)));
 /// # Ok::<(), Refusal>(())
 /// ```
 pub fn read(bytes: &[u8], readings: &mut [u16]) -> Result<Shape, Refusal> {
@@ -61,5 +81,5 @@ pub fn read(bytes: &[u8], readings: &mut [u16]) -> Result<Shape, Refusal> {
         mask_rows: answer.mask_rows,
         mask_columns: answer.mask_columns,
     };
-    Refusal::or(answer.number, answer.place, shape)
+    answered(answer.number, answer.place, shape)
 }

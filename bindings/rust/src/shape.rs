@@ -2,9 +2,9 @@
 
 use crate::Engine;
 
-/// The cycle, the image's rows and columns and the mask's sides: the paper's C, M, N, R and T.
+/// The ticks of the cycle, the sizes of the image and the sides of the mask. SPECIFICATION, "Sizes" and "Mask".
 ///
-/// Any numbers may stand here; the calls refuse those that are out of range.
+/// Any numbers may stand here; the calls refuse those outside their range.
 ///
 /// ```
 /// use circle_median::Shape;
@@ -15,23 +15,24 @@ use crate::Engine;
 /// ```
 #[derive(Debug, Clone, Copy, PartialEq, Eq, Hash)]
 pub struct Shape {
-    /// Ticks of the cycle, 1 to 65,535.
+    /// Ticks of the cycle, 1 to [`LONGEST_CYCLE`](crate::LONGEST_CYCLE).
     pub cycle: u32,
-    /// Rows of the image, 1 to 1,024.
+    /// Rows (labels) of the image, 1 to [`MOST_ROWS`](crate::MOST_ROWS).
     pub rows: u32,
-    /// Columns of the image, 1 to 8,192.
+    /// Columns (wakes) of the image, 1 to [`MOST_COLUMNS`](crate::MOST_COLUMNS).
     pub columns: u32,
-    /// Rows of the mask, odd, 1 to 255.
+    /// Rows (labels) of the mask: odd, 1 to [`MOST_MASK_ROWS`](crate::MOST_MASK_ROWS), and maybe more than the image has.
     pub mask_rows: u32,
-    /// Columns of the mask, odd, 1 to 255.
+    /// Columns (wakes) of the mask: odd, 1 to [`MOST_MASK_COLUMNS`](crate::MOST_MASK_COLUMNS), and maybe more than the
+    /// image has.
     pub mask_columns: u32,
 }
 
-/// The numbers of work memory that an engine needs: cycle · (columns + 1) for the level engine,
+/// The work memory that an engine needs, in numbers of 32 bits: cycle · (columns + 1) for the level engine,
 /// mask_rows · mask_columns · (columns + 1) for the reading engine.
 ///
-/// The largest need is 33,558,528 numbers for the level engine and 532,749,825 for the reading engine. For a shape that
-/// the engine refuses the result has no use; it stops at `usize::MAX`.
+/// The most is 33,558,528 for the level engine and 532,749,825 for the reading engine. For a shape that the engine
+/// refuses the result has no use; it stops at `usize::MAX`.
 ///
 /// ```
 /// use circle_median::{work_len, Engine, Shape};
@@ -49,7 +50,7 @@ pub fn work_len(engine: Engine, shape: Shape) -> usize {
     length(each.saturating_mul(columns))
 }
 
-/// The bytes of a record, as [`write`](crate::write) writes it: 22 + rows · (3 + 2 · columns).
+/// The length in bytes of a record, as [`write`](crate::write) writes it: 22 + rows · (3 + 2 · columns).
 ///
 /// For a shape that is refused the result has no use; it stops at `usize::MAX`.
 ///

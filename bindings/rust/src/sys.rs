@@ -1,11 +1,13 @@
-//! The library's C functions and structs as `include/circle_median.h` has them, where each is explained.
+//! The library's C functions and structs as `include/circle_median.h` declares them; that file says of each what it
+//! answers, what it refuses and what it leaves in memory. The other calls of this crate are made of these.
 //!
 //! Functions of plain numbers are safe. A function that takes pointers needs each to be not null and aligned, also
-//! where the length is 0, its memory to be there for the whole length, and memory that it writes to overlap no other.
-//! Of a reference to an array all this is known, so the functions of a live window are safe too; what the header has
-//! around them is [`LiveWindow`](crate::LiveWindow).
+//! where the length is 0, its memory to be there for the whole length, and memory that it writes to overlap no other
+//! argument. A reference to an array is all this, so the functions of a live window are safe too; what the header has
+//! around them is [`LiveWindow`](crate::LiveWindow). [`Refusal::from_number`](crate::Refusal::from_number) tells what a
+//! number and a place mean.
 
-/// `number` is 0 if the call was accepted, and else the refusal's number, with its place.
+/// An answer without a value.
 #[repr(C)]
 #[derive(Debug, Clone, Copy, PartialEq, Eq)]
 pub struct Answer {
@@ -55,17 +57,22 @@ pub struct WindowAnswer {
     pub number: u32,
     /// The refusal's place, 0 where it has none.
     pub place: u64,
-    /// The phase, 65,535 if none of the window is heard, -1 while it fills, and 0 if the reading was refused.
+    /// The chosen phase, a tick; [`SILENT`](crate::SILENT) if no reading of the window was heard; -1 while fewer have come
+    /// than the window is long; 0 if the reading was refused.
     pub value: i64,
-    /// How many of the window's readings are there now; as it was if the reading was refused.
+    /// How many of the window's readings are there afterwards; as given if the reading was refused.
     pub filled: u32,
 }
 
-/// The readings that a live window has room for, and its sums.
-pub const WINDOW: usize = 63;
+/// The elements of a live window's readings, and of its sums.
+pub const WINDOW: usize = crate::LIVE_LENGTH as usize;
 
 unsafe extern "C" {
-    /// Filters rows `first` to `end - 1` by the level engine.
+    /// Filters the rows from `first` up to `end`, without `end`, by the level engine.
+    ///
+    /// # Safety
+    ///
+    /// Of each pointer as the head of this module says.
     pub fn circle_median_level(
         cycle: u32,
         rows: u32,
@@ -82,7 +89,11 @@ unsafe extern "C" {
         work_length: usize,
     ) -> Answer;
 
-    /// Filters rows `first` to `end - 1` by the reading engine.
+    /// Filters the rows from `first` up to `end`, without `end`, by the reading engine.
+    ///
+    /// # Safety
+    ///
+    /// Of each pointer as the head of this module says.
     pub fn circle_median_reading(
         cycle: u32,
         rows: u32,
@@ -99,19 +110,27 @@ unsafe extern "C" {
         work_length: usize,
     ) -> Answer;
 
-    /// The distance of two ticks.
+    /// The value is the distance of ticks `a` and `b`.
     pub safe fn circle_median_distance(cycle: u32, a: u16, b: u16) -> ValueAnswer;
 
-    /// The signed step from `a` to `b`.
+    /// The value is the step from tick `a` to tick `b`.
     pub safe fn circle_median_step(cycle: u32, a: u16, b: u16) -> ValueAnswer;
 
-    /// 1 if `p` is in the slot that starts at `s` and is `w` wide, else 0.
+    /// The value is 1 if tick `p` is in the slot that starts at `s` and is `w` wide, and else 0.
     pub safe fn circle_median_slot(cycle: u32, p: u16, s: u16, w: u16) -> ValueAnswer;
 
-    /// The drift of a row.
+    /// The value is the drift of a row.
+    ///
+    /// # Safety
+    ///
+    /// Of the pointer as the head of this module says.
     pub fn circle_median_drift(cycle: u32, row: *const u16, row_length: usize) -> ValueAnswer;
 
     /// Writes a record to the front of `bytes`; the value is its length.
+    ///
+    /// # Safety
+    ///
+    /// Of each pointer as the head of this module says.
     pub fn circle_median_write(
         cycle: u32,
         rows: u32,
@@ -124,7 +143,11 @@ unsafe extern "C" {
         bytes_length: usize,
     ) -> ValueAnswer;
 
-    /// Reads the record that fills `bytes`; its readings stand at the front of `readings`.
+    /// Reads the record that fills `bytes`, and puts its readings at the front of `readings`.
+    ///
+    /// # Safety
+    ///
+    /// Of each pointer as the head of this module says.
     pub fn circle_median_read(
         bytes: *const u8,
         bytes_length: usize,
@@ -132,7 +155,7 @@ unsafe extern "C" {
         readings_length: usize,
     ) -> RecordAnswer;
 
-    /// Makes the readings and sums of a live window fresh.
+    /// Makes the readings and sums of a live window those of one without readings.
     pub safe fn circle_median_window_fresh(
         cycle: u32,
         length: u32,
@@ -140,7 +163,7 @@ unsafe extern "C" {
         sums: &mut [u16; WINDOW],
     ) -> Answer;
 
-    /// Pushes a reading into the readings and sums of a live window of which so many are filled.
+    /// Pushes a reading into the readings and sums of a live window of which `filled` have come.
     pub safe fn circle_median_window_enter(
         cycle: u32,
         length: u32,

@@ -12,9 +12,15 @@ use crate::tally::Tally;
 pub fn told(answer: sys::ValueAnswer) -> Result<i64, Refusal> {
     match answer {
         sys::ValueAnswer { number: 0, place: 0, value } => Ok(value),
-        sys::ValueAnswer { number: 1..=13, place, value: 0 } => Err(Refusal { number: answer.number, place }),
+        sys::ValueAnswer { number, place, value: 0 } => Err(refusal(number, place)),
         _ => panic!("{answer:?}"),
     }
+}
+
+/// The refusal of a number and a place, which must be 0 where the number has none.
+pub fn refusal(number: u32, place: u64) -> Refusal {
+    let refusal = Refusal::from_number(number, place).filter(|refusal| refusal.place() as u64 == place);
+    refusal.unwrap_or_else(|| panic!("there is no refusal {number} at {place}"))
 }
 
 /// Makes one call of distance, step and slot and counts the answers.
@@ -137,8 +143,8 @@ fn drift_of_every_short_row() {
     tally.must_have(&[0, 9], 300);
 }
 
-/// The largest drifts: 8,191 steps of 32,767 ticks, ahead and back on a cycle of 65,535, and on 65,534, where each is half a cycle
-/// and so a step back.
+/// The largest drifts: 8,191 steps of 32,767 ticks, ahead and back on a cycle of 65,535, and on 65,534, where each is
+/// half a cycle and so a step back.
 #[test]
 fn largest_drifts() {
     let mut random = Random::seeded(3);

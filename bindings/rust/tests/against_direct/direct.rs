@@ -1,6 +1,6 @@
-//! The papers' definitions written down directly: every window is gathered, every heard reading of it weighed, every
-//! test made in its order. The functions have the signatures of the library's safe ones, and do to lent memory what
-//! those should do.
+//! The rules of docs/SPECIFICATION.md written down directly: every window is gathered, every heard reading of it
+//! weighed, every test made in its order. The functions have the signatures of the library's safe ones, and do to lent
+//! memory what those should do.
 
 use std::array;
 use std::collections::BTreeMap;
@@ -13,25 +13,25 @@ type Answer<T> = Result<T, Refusal>;
 
 // Tests.
 
-fn refuse_if(condition: bool, number: u32) -> Answer<()> {
-    refuse_at(condition.then_some(0), number)
+fn refuse_if(condition: bool, refusal: Refusal) -> Answer<()> {
+    refuse_at(condition.then_some(0), |_| refusal)
 }
 
-fn refuse_at(place: Option<usize>, number: u32) -> Answer<()> {
-    place.map_or(Ok(()), |place| Err(Refusal { number, place: place as u64 }))
+fn refuse_at(place: Option<usize>, refusal: impl FnOnce(usize) -> Refusal) -> Answer<()> {
+    place.map_or(Ok(()), |place| Err(refusal(place)))
 }
 
 fn test_cycle(cycle: u32, limit: u32) -> Answer<()> {
-    refuse_if(cycle == 0 || cycle > limit, 1)
+    refuse_if(cycle == 0 || cycle > limit, Refusal::Cycle)
 }
 
 fn test_sizes(rows: u32, columns: u32) -> Answer<()> {
-    refuse_if(!(1..=1024).contains(&rows) || !(1..=8192).contains(&columns), 2)
+    refuse_if(!(1..=1024).contains(&rows) || !(1..=8192).contains(&columns), Refusal::Size)
 }
 
 fn test_mask(shape: Shape) -> Answer<()> {
     let bad = |side: u32| side % 2 == 0 || side > 255;
-    refuse_if(bad(shape.mask_rows) || bad(shape.mask_columns), 3)
+    refuse_if(bad(shape.mask_rows) || bad(shape.mask_columns), Refusal::Mask)
 }
 
 fn test_shape(shape: Shape, limit: u32) -> Answer<()> {
@@ -42,12 +42,13 @@ fn test_shape(shape: Shape, limit: u32) -> Answer<()> {
 
 /// Arguments must be below the cycle.
 fn test_arguments(cycle: u32, arguments: &[u16]) -> Answer<()> {
-    refuse_at(arguments.iter().position(|&argument| u32::from(argument) >= cycle), 9)
+    refuse_at(arguments.iter().position(|&argument| u32::from(argument) >= cycle), Refusal::Reading)
 }
 
 /// Readings must be below the cycle or silent.
 fn test_readings(cycle: u32, readings: &[u16]) -> Answer<()> {
-    refuse_at(readings.iter().position(|&reading| u32::from(reading) >= cycle && reading != SILENT), 9)
+    let bad = |&reading: &u16| u32::from(reading) >= cycle && reading != SILENT;
+    refuse_at(readings.iter().position(bad), Refusal::Reading)
 }
 
 /// The readings that were heard, in their order.
@@ -55,7 +56,7 @@ fn heard(readings: &[u16]) -> Vec<u16> {
     readings.iter().copied().filter(|&reading| reading != SILENT).collect()
 }
 
-// The dial.
+// The cycle.
 
 fn apart(cycle: u64, a: u64, b: u64) -> u64 {
     let e = a.abs_diff(b);
@@ -92,7 +93,7 @@ pub fn slot(cycle: u32, p: u16, s: u16, w: u16) -> Answer<bool> {
 
 pub fn drift(cycle: u32, row: &[u16]) -> Answer<i32> {
     test_cycle(cycle, 65_535)?;
-    refuse_if(row.is_empty() || row.len() > 8192, 2)?;
+    refuse_if(row.is_empty() || row.len() > 8192, Refusal::Size)?;
     test_readings(cycle, row)?;
     let steps = heard(row).windows(2).map(|pair| stepped(cycle.into(), pair[0].into(), pair[1].into())).sum::<i64>();
     Ok(steps as i32)
@@ -100,8 +101,8 @@ pub fn drift(cycle: u32, row: &[u16]) -> Answer<i32> {
 
 // The filter.
 
-/// What `index` stands for on an axis of `size`, which is mirrored at its edges as often as necessary: one reflection
-/// after the other.
+/// What `index` stands for on an axis of `size`, which is mirrored at its edges: one reflection after the other, until the
+/// index lies on the axis.
 fn mirrored(mut index: i64, size: i64) -> i64 {
     while !(0..size).contains(&index) {
         index = if index < 0 { -index - 1 } else { 2 * size - 1 - index };
@@ -124,8 +125,8 @@ fn window(shape: Shape, input: &[u16], row: u32, column: u32) -> Vec<u16> {
     readings
 }
 
-/// What is written for a window: a heard reading, or silence if none is heard. The first one heard stands in for a
-/// silent centre.
+/// What is written for a window: the chosen one of its heard readings, or silence. The first one heard stands in for a
+/// centre that was not.
 fn phase(cycle: u32, window: &[u16], centre: u16) -> u16 {
     let heard = heard(window);
     match heard.first() {
@@ -134,7 +135,7 @@ fn phase(cycle: u32, window: &[u16], centre: u16) -> u16 {
     }
 }
 
-/// The reading with the least sum; of several the closest to the centre, of two such the one ahead.
+/// The reading with the least sum; of several the nearest to the centre, of two such the one ahead.
 fn chosen(cycle: u32, heard: &[u16], centre: u16) -> u16 {
     let (cycle, centre) = (u64::from(cycle), u64::from(centre));
     let mut counted = BTreeMap::new();
@@ -168,10 +169,10 @@ pub fn test_filter(
 ) -> Answer<()> {
     test_shape(shape, if engine == Engine::Level { 4096 } else { 65_535 })?;
     let image = shape.rows as usize * shape.columns as usize;
-    refuse_if(rows.start > rows.end || rows.end > shape.rows, 5)?;
-    refuse_if(input.len() != image, 6)?;
-    refuse_if(output < image, 7)?;
-    refuse_if(work < need(engine, shape), 8)?;
+    refuse_if(rows.start > rows.end || rows.end > shape.rows, Refusal::Rows)?;
+    refuse_if(input.len() != image, Refusal::Input)?;
+    refuse_if(output < image, Refusal::Buffer)?;
+    refuse_if(work < need(engine, shape), Refusal::Work)?;
     test_readings(shape.cycle, input)
 }
 
@@ -212,7 +213,7 @@ pub struct LiveWindow {
 impl LiveWindow {
     pub fn new(cycle: u32, length: u32) -> Answer<Self> {
         test_cycle(cycle, 512)?;
-        refuse_if(length % 2 == 0 || length > 63, 3)?;
+        refuse_if(length % 2 == 0 || length > 63, Refusal::Mask)?;
         Ok(LiveWindow { cycle, length, accepted: Vec::new() })
     }
 
@@ -276,8 +277,8 @@ pub fn record(shape: Shape, mask: &[u16], readings: &[u16]) -> Vec<u8> {
 pub fn write(shape: Shape, readings: &[u16], bytes: &mut [u8]) -> Answer<usize> {
     test_shape(shape, 65_535)?;
     let (rows, columns) = (shape.rows as usize, shape.columns as usize);
-    refuse_if(readings.len() != rows * columns, 6)?;
-    refuse_if(bytes.len() < 22 + rows * (3 + 2 * columns), 7)?;
+    refuse_if(readings.len() != rows * columns, Refusal::Input)?;
+    refuse_if(bytes.len() < 22 + rows * (3 + 2 * columns), Refusal::Buffer)?;
     test_readings(shape.cycle, readings)?;
     let record = record(shape, &[shape.mask_rows as u16, shape.mask_columns as u16], readings);
     bytes[..record.len()].copy_from_slice(&record);
@@ -294,12 +295,11 @@ impl Fields<'_> {
     /// The numbers of the next field, which must have this tag and one of these lengths.
     fn take(&mut self, tag: u8, lengths: &[usize]) -> Answer<Vec<u16>> {
         let (at, left) = (self.at, &self.bytes[self.at..]);
-        let refuse_if = |condition: bool, number| refuse_at(condition.then_some(at), number);
-        refuse_if(left.len() < 3, 10)?;
-        refuse_if(left[0] != tag, 11)?;
+        refuse_if(left.len() < 3, Refusal::Cut(at))?;
+        refuse_if(left[0] != tag, Refusal::Tag(at))?;
         let length = usize::from(left[1]) * 256 + usize::from(left[2]);
-        refuse_if(!lengths.contains(&length), 12)?;
-        refuse_if(left.len() < 3 + length, 10)?;
+        refuse_if(!lengths.contains(&length), Refusal::Length(at))?;
+        refuse_if(left.len() < 3 + length, Refusal::Cut(at))?;
         self.at += 3 + length;
         Ok(left[3..3 + length].chunks(2).map(|pair| u16::from(pair[0]) * 256 + u16::from(pair[1])).collect())
     }
@@ -323,14 +323,14 @@ pub fn read(bytes: &[u8], readings: &mut [u16]) -> Answer<Shape> {
     let mut fields = Fields { bytes, at: 0 };
     let shape = fields.take_shape()?;
     let image = shape.rows as usize * shape.columns as usize;
-    refuse_if(readings.len() < image, 7)?;
+    refuse_if(readings.len() < image, Refusal::Buffer)?;
     let mut read = Vec::new();
     for _ in 0..shape.rows {
         read.extend(fields.take(4, &[2 * shape.columns as usize])?);
         test_readings(shape.cycle, &read)?;
     }
     fields.take(0xFF, &[0])?;
-    refuse_at((fields.at < bytes.len()).then_some(fields.at), 13)?;
+    refuse_if(fields.at < bytes.len(), Refusal::Trailing(fields.at))?;
     readings[..image].copy_from_slice(&read);
     Ok(shape)
 }

@@ -1,10 +1,10 @@
-//! The papers' own examples, with the answers that they print, and the mistakes that they warn of.
+//! The worked examples of docs/SPECIFICATION.md, E1 to E13, and small calls with their answers.
 
 use circle_median::Engine::{Level, Reading};
 use circle_median::{distance, drift, filter, read, slot, step, work_len, write};
 use circle_median::{Engine, Live, LiveWindow, Refusal, Shape, SILENT};
-
-const NONE: Refusal = Refusal { number: 0, place: 0 };
+use circle_median::{LEVEL_CYCLE, LIVE_CYCLE, LIVE_LENGTH, LONGEST_CYCLE};
+use circle_median::{MOST_COLUMNS, MOST_MASK_COLUMNS, MOST_MASK_ROWS, MOST_ROWS};
 
 fn shape(cycle: u32, rows: u32, columns: u32, mask_rows: u32, mask_columns: u32) -> Shape {
     Shape { cycle, rows, columns, mask_rows, mask_columns }
@@ -17,14 +17,13 @@ fn filtered(engine: Engine, shape: Shape, image: &[u16]) -> Result<Vec<u16>, Ref
     filter(engine, shape, 0..shape.rows, image, &mut output, &mut work).map(|()| output)
 }
 
-/// The number and place of a refusal.
-fn refused<T>(answer: Result<T, Refusal>) -> (u32, u64) {
-    let refusal = answer.err().unwrap_or(NONE);
-    (refusal.number, refusal.place)
+/// The number and place of a refusal, 0 and 0 if there is none.
+fn refused<T>(answer: Result<T, Refusal>) -> (u32, usize) {
+    answer.err().map_or((0, 0), |refusal| (refusal.number(), refusal.place()))
 }
 
 #[test]
-fn windows_p1_to_p11() {
+fn windows_e1_to_e11() {
     let windows: [(u32, &[u16], u16); 11] = [
         (8, &[4, 1, 7], 1),
         (8, &[1, 7, 4], 7),
@@ -50,7 +49,7 @@ fn windows_p1_to_p11() {
 }
 
 #[test]
-fn steps_p12_and_drift() {
+fn steps_e12_and_drift() {
     assert_eq!(step(8, 1, 5), Ok(-4));
     assert_eq!(step(8, 5, 1), Ok(-4));
     assert_eq!(step(8, 1, 6), Ok(-3));
@@ -71,7 +70,7 @@ fn row_and_edges() {
     assert_eq!(filtered(Level, shape(4096, 1, 1, 1, 1), &[4095]), Ok(vec![4095]));
 }
 
-/// Masks longer than the image, which is mirrored as often as necessary.
+/// Masks longer than the image, which is mirrored more than once.
 #[test]
 fn runs_shorter_than_the_mask() {
     for engine in [Level, Reading] {
@@ -83,7 +82,7 @@ fn runs_shorter_than_the_mask() {
     }
 }
 
-/// Silent readings: no centre, none heard, an even number heard, and the example of 16 ticks.
+/// Silent readings: as a centre, in all of a window, with an even number heard, and example E13.
 #[test]
 fn silent_windows() {
     const S: u16 = SILENT;
@@ -156,7 +155,7 @@ fn refused_records() {
     assert_eq!(call(&bytes[..35]), (0, 0));
 }
 
-/// The paper's row wake by wake, a row with silent readings, and a window of one, which never fills.
+/// A row wake by wake, rows with silent readings, a window of one reading, which never fills, and the longest window.
 #[test]
 fn live_rows() {
     const S: u16 = SILENT;
@@ -192,15 +191,36 @@ fn refused_and_reset_windows() {
     assert_eq!([new(8, 0), new(8, 2), new(8, 64), new(8, 65)], [(3, 0); 4]);
 }
 
-/// What a refusal says: its number, its place if it has one, and why.
+/// What a refusal says: its number, its place if it has one, and the reason.
 #[test]
 fn refusals_in_words() {
-    for number in (1..=13).filter(|&number| number != 4) {
-        let words = Refusal { number, place: 4 }.to_string();
-        let start = if number < 9 { format!("refused {number}: ") } else { format!("refused {number} at 4: ") };
-        assert!(words.starts_with(&start) && words.len() > start.len() + 10, "{words}");
-        assert!(!words.contains("no call of this library"), "{words}");
+    for number in (1..=14).filter(|&number| number != 4) {
+        let refusal = Refusal::from_number(number, 35).unwrap();
+        let place = if (9..=13).contains(&number) { " at 35" } else { "" };
+        assert_eq!(refusal.to_string(), format!("refused {number}{place}: {}", refusal.reason()));
+        assert!(!refusal.reason().is_empty());
+        let error: Box<dyn std::error::Error> = refusal.into();
+        assert_eq!(error.to_string(), refusal.to_string());
     }
+}
+
+/// Each limit is accepted, and what is beyond it refused.
+#[test]
+fn limits() {
+    assert_eq!(refused(distance(LONGEST_CYCLE, 0, 0)), (0, 0));
+    assert_eq!(refused(distance(LONGEST_CYCLE + 1, 0, 0)), (1, 0));
+    let wide = shape(8, 1, MOST_COLUMNS, MOST_MASK_ROWS, MOST_MASK_COLUMNS);
+    let tall = shape(LEVEL_CYCLE, MOST_ROWS, 1, 1, 1);
+    let call = |shape: Shape| refused(filtered(Level, shape, &vec![SILENT; (shape.rows * shape.columns) as usize]));
+    assert_eq!([call(wide), call(tall)], [(0, 0); 2]);
+    assert_eq!(call(Shape { cycle: LEVEL_CYCLE + 1, ..tall }), (1, 0));
+    assert_eq!(call(Shape { rows: MOST_ROWS + 1, ..tall }), (2, 0));
+    assert_eq!(call(Shape { columns: MOST_COLUMNS + 1, ..wide }), (2, 0));
+    assert_eq!(call(Shape { mask_rows: MOST_MASK_ROWS + 2, ..wide }), (3, 0));
+    assert_eq!(call(Shape { mask_columns: MOST_MASK_COLUMNS + 2, ..wide }), (3, 0));
+    assert_eq!(refused(LiveWindow::new(LIVE_CYCLE, LIVE_LENGTH)), (0, 0));
+    assert_eq!(refused(LiveWindow::new(LIVE_CYCLE + 1, LIVE_LENGTH)), (1, 0));
+    assert_eq!(refused(LiveWindow::new(LIVE_CYCLE, LIVE_LENGTH + 2)), (3, 0));
 }
 
 /// No shape is too large for the lengths to be told.

@@ -66,7 +66,7 @@ fn every_small_mask() {
     tally.must_have(&[0, 3], 3_000);
 }
 
-/// Cycles on which the distance formula, taken for a silent reading, would not give 0.
+/// Cycles on which the formula of a distance, used for the number of a silent reading, would not give 0.
 #[test]
 fn reading_engine_on_long_cycles() {
     let mut random = Random::seeded(16);

@@ -4,6 +4,7 @@ use std::ops::Range;
 
 use circle_median::{sys, work_len, Engine, Refusal, Shape};
 
+use crate::cycle::refusal;
 use crate::direct;
 use crate::images::{at_least, break_shape, other_length, shape, shorter};
 use crate::lent::Lent;
@@ -61,7 +62,7 @@ impl Call {
         call
     }
 
-    /// Breaks one of the tests 1 to 8, by its number; there is no 4.
+    /// Makes one of the tests 1 to 8 fail, by its number; there is no 4.
     pub fn break_test(&mut self, random: &mut Random, number: u32) {
         match number {
             1..=3 => break_shape(random, &mut self.shape, number, limit(self.engine)),
@@ -149,8 +150,7 @@ impl Call {
         };
         match answer {
             sys::Answer { number: 0, place: 0 } => Ok(()),
-            sys::Answer { number: 1..=13, place } => Err(Refusal { number: answer.number, place }),
-            _ => panic!("{answer:?}"),
+            sys::Answer { number, place } => Err(refusal(number, place)),
         }
     }
 }

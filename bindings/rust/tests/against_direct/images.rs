@@ -18,8 +18,8 @@ pub fn readings(random: &mut Random, cycle: u32, length: usize) -> Vec<u16> {
     readings
 }
 
-/// Ticks of a cycle: anywhere, or few, or parts of the cycle apart, so that many sums are equal, or the last ones, which
-/// are the closest to a silent reading.
+/// Ticks of a cycle: anywhere; or few; or parts of the cycle apart, so that many sums are equal; or the last ones, whose
+/// numbers come closest to that of a silent reading.
 fn ticks(random: &mut Random, cycle: u32, length: usize) -> Vec<u16> {
     let start = random.within(0..=cycle - 1);
     let (parts, kinds) = (random.within(1..=6), random.within(1..=4));
@@ -37,8 +37,8 @@ fn ticks(random: &mut Random, cycle: u32, length: usize) -> Vec<u16> {
     (0..length).map(draw).collect()
 }
 
-/// Puts numbers that are neither below the cycle nor silent at some places; on 65,535 ticks there are none, and these
-/// places fall silent.
+/// Puts numbers that are neither ticks nor silent at some places; on 65,535 ticks there are none, and the places fall
+/// silent.
 pub fn spoil(random: &mut Random, cycle: u32, readings: &mut [u16]) {
     let most = cycle.max(65_534);
     for _ in 0..random.within(1..=3) {
@@ -49,8 +49,7 @@ pub fn spoil(random: &mut Random, cycle: u32, readings: &mut [u16]) {
     }
 }
 
-/// A mask side for an axis of this size: odd, most often short, now and then as far as one reflection or several times
-/// the axis.
+/// A mask side for an axis of this size: odd, most often short, now and then as far as one reflection reaches, or several.
 pub fn side(random: &mut Random, size: u32) -> u32 {
     let reach = match random.within(0..=15) {
         0 | 1 => size,
@@ -66,7 +65,7 @@ pub fn shape(random: &mut Random, cycle: u32, rows: u32, columns: u32) -> Shape 
     Shape { cycle, rows, columns, mask_rows: side(random, rows), mask_columns: side(random, columns) }
 }
 
-/// Breaks one of the first three tests, by its number; `limit` is the longest cycle.
+/// Makes one of the first three tests fail, by its number; `limit` is the longest cycle.
 pub fn break_shape(random: &mut Random, shape: &mut Shape, number: u32, limit: u32) {
     let first = random.once_in(2);
     match (number, first) {

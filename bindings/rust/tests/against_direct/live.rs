@@ -6,6 +6,7 @@ use std::fmt::Debug;
 use circle_median::Engine::{Level, Reading};
 use circle_median::{filter, sys, work_len, Live, LiveWindow, Refusal, Shape, SILENT};
 
+use crate::cycle::refusal;
 use crate::direct;
 use crate::images::{readings, spoil};
 use crate::lent::Lent;
@@ -55,7 +56,7 @@ impl Raw {
                 self.filled = 0;
                 Ok(())
             }
-            sys::Answer { number: number @ (1 | 3), place } => Err(Refusal { number, place }),
+            sys::Answer { number: number @ (1 | 3), place } => Err(refusal(number, place)),
             answer => panic!("{answer:?}"),
         }
     }
@@ -69,7 +70,7 @@ impl Raw {
             (0, 0, -1) => Ok(Live::Filling),
             (0, 0, 65_535) => Ok(Live::Silent),
             (0, 0, phase @ 0..=65_534) => Ok(Live::Phase(phase as u16)),
-            (number @ (1 | 3 | 9), place, 0) => Err(Refusal { number, place }),
+            (number @ (1 | 3 | 9), place, 0) => Err(refusal(number, place)),
             _ => panic!("{answer:?}"),
         }
     }

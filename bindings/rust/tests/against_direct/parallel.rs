@@ -60,7 +60,7 @@ fn random_calls() {
     tally.must_have(&[0, 1, 2, 3, 5, 6, 7, 9], 60);
 }
 
-/// Every range of a few rows, with masks that reach from no row to more than twice all of them: r above M among them.
+/// Every range of a few rows, with masks that reach from no row to more than twice all of them.
 #[test]
 fn every_range_and_reach() {
     let mut random = Random::seeded(21);

@@ -2,7 +2,7 @@
 
 use circle_median::{record_len, sys, Refusal, Shape, SILENT};
 
-use crate::cycle::told;
+use crate::cycle::{refusal, told};
 use crate::direct;
 use crate::images::{at_least, break_shape, other_length, readings, shape, shorter, spoil};
 use crate::lent::Lent;
@@ -35,7 +35,7 @@ fn raw_read(bytes: &[u8], readings: &mut [u16]) -> Result<Shape, Refusal> {
     let nothing = Shape { cycle: 0, rows: 0, columns: 0, mask_rows: 0, mask_columns: 0 };
     match number {
         0 if place == 0 => Ok(shape),
-        1..=13 if shape == nothing => Err(Refusal { number, place }),
+        1.. if shape == nothing => Err(refusal(number, place)),
         _ => panic!("{answer:?}"),
     }
 }
@@ -98,7 +98,7 @@ fn random_writes() {
     tally.must_have(&[0, 1, 2, 3, 6, 7, 9], 500);
 }
 
-/// The bytes of a good record, with field 03 full or empty.
+/// The bytes of a good record, with a mask field that is full or empty.
 fn good_record(random: &mut Random, shape: Shape) -> Vec<u8> {
     let image = readings(random, shape.cycle, (shape.rows * shape.columns) as usize);
     let mask = [shape.mask_rows as u16, shape.mask_columns as u16];
@@ -210,7 +210,7 @@ fn written_records_read_back() {
     }
 }
 
-/// An empty field 03 stands for a mask of 1 by 7, on rows of every length.
+/// An empty mask field stands for a mask of 1 by 7, on rows of every length.
 #[test]
 fn default_mask() {
     let mut random = Random::seeded(34);

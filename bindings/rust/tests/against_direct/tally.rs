@@ -4,7 +4,7 @@ use circle_median::Refusal;
 
 pub struct Tally {
     name: &'static str,
-    /// Accepted calls at 0, refusals at their number.
+    /// Accepted calls at 0, refusals at their numbers.
     counts: [u32; 14],
 }
 
@@ -14,7 +14,7 @@ impl Tally {
     }
 
     pub fn count<T>(&mut self, answer: &Result<T, Refusal>) {
-        let number = answer.as_ref().err().map_or(0, |refusal| refusal.number);
+        let number = answer.as_ref().err().map_or(0, |refusal| refusal.number());
         self.counts[number as usize] += 1;
     }
 
