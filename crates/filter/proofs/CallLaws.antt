@@ -28,7 +28,8 @@ use Rattle.filter.specs.declared.Engine.TheVariants.{Level, Reading}
 use Rattle.filter.specs.Calls.{limit, need, memory_rules, image_rules, room_due, filter_due}
 
 -- what tests 5 to 9 say when they are clear
-pub record IsTestedImage (s : Shape) (need first end : ℕ) (image : List ℕ) (output work : ℕ) : Type 0 where
+pub record IsTestedImage (s : Shape) (need first end : ℕ) (image : List ℕ)
+    (output work : ℕ) : Type 0 where
   pub order : first ≤ end
   pub within : end ≤ s.rows
   pub size : length image ≡ area s
@@ -54,6 +55,13 @@ pub image_ready : {s : Shape} {need first end output work limit : ℕ} {image : 
     → IsClear (shape_rules limit s)
     → IsTestedImage s need first end image output work → IsReady limit s image
 image_ready k i = record { shape = k; size = i.size; good = i.good }
+
+-- an image that is ready for one limit of the cycle is so for every limit that its cycle keeps
+pub ready_within : {a b : ℕ} {s : Shape} {image : List ℕ} → s.cycle ≤ b → IsReady a s image
+    → IsReady b s image
+ready_within {a} {b} {s} fits r =
+    let k = r.shape in
+    record { shape = (k.0, (le-ltb b s.cycle fits, k.1.1)); size = r.size; good = r.good }
 
 -- the first n numbers filled with 0, by what std's `fill` says
 pub front-zeroed : {w part : List ℕ} {n m : ℕ} → n ≡ m → n ≤ length w → part ≡ replicate n 0

@@ -1,3 +1,4 @@
 pub mod CallLaws
 pub mod Guarantees
+pub mod JobLaws
 pub mod Order

@@ -10,18 +10,25 @@ use refusal::Refusal;
 use shape::{Shape, check_buffer, check_input, check_rows, check_work};
 use std::ops::Range;
 
-// Tests 7 and 8, where so many numbers of output and of work memory are needed.
+/// Whether lent memory is long enough: `output` numbers for `phases`, and `work` numbers of work
+/// memory for the `need` of an engine.
+///
+/// Refuses the length of the output (7), then that of the work memory (8), at place 0.
 #[tactic(auto, unfolding(refusal::specs::Outcome::first_due))]
-fn check_memory(phases: usize, need: usize, output: usize, work: usize) -> Result<(), Refusal>
+pub fn check_memory(phases: usize, need: usize, output: usize, work: usize) -> Result<(), Refusal>
     ensures { outcome result ≡ first_due (memory_rules phases need output work) tt }
 {
     check_buffer(phases, output)?;
     check_work(need, work)
 }
 
-// Tests 5 to 9, for an engine that needs so many numbers of work memory.
+/// Tests 5 to 9 of a call, where `need` numbers of work memory are needed: as many as its engine
+/// needs, or the fewest of several, or 0 if it takes none.
+///
+/// Refuses the range of rows (5), the length of the input (6), that of the output (7), that of the
+/// work memory (8), then a reading (9), in this order.
 #[tactic(auto, unfolding(refusal::specs::Outcome::first_due))]
-fn check_image(
+pub fn check_image(
     shape: Shape,
     need: usize,
     rows: &Range<u32>,

@@ -1,10 +1,11 @@
-//! The filter: two engines over one definition. A call tests everything before it writes, filters
-//! the rows of its range, and sets the work memory that it needs to 0. The engines take different
-//! cycles and different work memory, and differ in speed; they write the same numbers.
-//! SPECIFICATION, "Filters".
+//! The filter: two engines over one definition. A call tests everything before it writes, which
+//! makes a `Job`; running that filters the rows of its range, and sets the work memory that it
+//! needs to 0. The engines take different cycles and different work memory, and differ in speed;
+//! they write the same numbers. SPECIFICATION, "Filters".
 #![tactic(auto)]
 
 mod checks;
+mod job;
 
 ghost use Rattle.std.specs.Prelude.{◌≡◌, length};
 ghost use Rattle.refusal.specs.Outcome.{first_due, outcome, IsClear};
@@ -13,8 +14,8 @@ ghost use Rattle.lines.specs.Rows.{IsFillable, IsFilled};
 ghost use Rattle.filter.specs.declared.Engine.TheVariants.{Level, Reading};
 ghost use Rattle.filter.specs.Calls.{limit, need, FilterCall};
 
-use checks::check_filter;
-pub use checks::check_room;
+pub use checks::{check_memory, check_room};
+pub use job::Job;
 use lines::Image;
 use refusal::Refusal;
 use refusal::limits::{LEVEL_CYCLE, LONGEST_CYCLE};
@@ -48,8 +49,8 @@ impl Engine {
         shape.check(self.limit())
     }
 
-    // The numbers of work memory that the engine needs, for a shape that has passed its tests.
-    fn need(self, shape: Shape) -> usize
+    /// The numbers of work memory that the engine needs, for a shape that has passed its tests.
+    pub fn need(self, shape: Shape) -> usize
         requires { IsClear (shape_rules (limit self) shape) }
         ensures { result ≡ need self shape }
     {
@@ -105,14 +106,7 @@ pub fn run(
     ensures { FilterCall engine shape rows.start rows.end input.now output.old work.old result
         output.new work.new }
 {
-    check_filter(engine, shape, &rows, input, output.len(), work.len())?;
-    let image = Image {
-        shape,
-        readings: input,
-    };
-    engine.fill(&image, rows.start as usize..rows.end as usize, output, work);
-    let need = engine.need(shape);
-    work[..need].fill(0);
+    Job::new(engine, shape, rows, input, output.len(), work.len())?.run(output, work);
     Ok(())
 }
 

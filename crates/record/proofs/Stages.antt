@@ -1,5 +1,6 @@
--- What the tests of the first three fields say when they are clear.
-use Rattle.std.proofs.Common.{ℕ, List, ◌++◌, arith, ltb-false}
+-- What the tests of the reader say when they are clear: of the first three fields, and with more
+-- room.
+use Rattle.std.proofs.Common.{ℕ, ◌≤◌, List, ◌++◌, arith, ltb-false}
 use Rattle.refusal.specs.Limits.{most_rows, most_columns}
 use Rattle.refusal.specs.Outcome.{IsClear}
 use Rattle.refusal.proofs.Outcome.{clear_split}
@@ -10,6 +11,7 @@ use Rattle.record_format.specs.Reading.{rows_in, columns_in, mask_due, shape_in,
 use Rattle.record_format.specs.Reading.{cycle_field_rules, size_field_rules, mask_value_rules}
 use Rattle.record_format.specs.Reading.{body_rules, read_rules}
 use Rattle.record_format.proofs.FieldRead.{field_clear}
+use Rattle.record_format.proofs.Readable.{readable, clear_readable}
 use Rattle.record.specs.Stages.{head_rules, HasHead}
 
 module _ (b : List ℕ) where
@@ -32,3 +34,19 @@ module _ (b : List ℕ) where
   unfolding read_rules
   headed_read room k =
       headed (clear_split (head_rules b) (mask_value_rules (shape_in b) room ++ body_rules b) k).0
+
+  -- clear tests are so with more room
+  pub clear_wider : (room more : ℕ) → room ≤ more → IsClear (read_rules b room)
+      → IsClear (read_rules b more)
+  clear_wider room more h k =
+      let r = readable b room k in
+      clear_readable b more (record {
+        cycle = r.cycle;
+        size = r.size;
+        mask = r.mask;
+        shape = r.shape;
+        buffer = omega (arith, r.buffer, h);
+        rows = r.rows;
+        end = r.end;
+        last = r.last;
+      })

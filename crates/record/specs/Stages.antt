@@ -1,8 +1,10 @@
--- The stages of the reader: the tests of the first three fields, and what its functions rely on
--- once these have passed.
-use Rattle.std.specs.Prelude.{ℕ, ◌+◌, ◌≤◌, List, ◌++◌, length}
+-- The stages of the reader: the tests of the first three fields, what its functions rely on once
+-- these have passed, and that clear tests are one fact, which a record that has passed them holds.
+use Rattle.std.specs.Prelude.{ℕ, ◌+◌, ◌≤◌, false, List, [], ◌∷◌, ◌++◌, length}
+use Rattle.std.specs.Coded.{×_prop, Unit-prop}
+use Rattle.std.proofs.Math.Bool.{Bool-set}
 use Rattle.refusal.specs.Limits.{most_rows, most_columns}
-use Rattle.refusal.specs.Outcome.{Rule}
+use Rattle.refusal.specs.Outcome.{Rule, IsClear}
 use Rattle.record_format.specs.declared.Tag.TheVariants as tags
 use Rattle.record_format.specs.Layout.{body_of, mask_field_at}
 use Rattle.record_format.specs.Reading.{rows_in, columns_in, mask_due, field_rules}
@@ -18,3 +20,8 @@ pub record HasHead (bytes : List ℕ) : Type 0 where
   pub whole : body_of mask_field_at + mask_due bytes ≤ length bytes
   pub rows_fit : rows_in bytes ≤ most_rows
   pub columns_fit : columns_in bytes ≤ most_columns
+
+-- that no test is due has one proof at most
+pub IsClear-prop : (rs : List Rule) → IsProp (IsClear rs)
+IsClear-prop [] = Unit-prop
+IsClear-prop (r ∷ rs) = ×_prop (Bool-set r.due false) (IsClear-prop rs)

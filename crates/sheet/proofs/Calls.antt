@@ -25,17 +25,11 @@ use Rattle.filter.specs.Calls.{limit, need, filtered_rows, room_due, FilterCall}
 use Rattle.filter.proofs.CallLaws.{IsTestedImage, call-tested, call-ready, limit-fits, good_image}
 use Rattle.record_format.specs.Reading.{shape_in, image_in, read_rules, read_due}
 use Rattle.record_format.proofs.Readable.{readable, length_image, image_good}
-use Rattle.record.specs.Calls.{ReadCall}
 use Rattle.sheet_text.specs.Text.{LaysText}
 use Rattle.sheet_text.specs.Lines.{refusal_line, image_lines}
 use Rattle.sheet.specs.Sheet.{engine_for, length_due, filtered_due, filtered_image, sheet_due}
 use Rattle.sheet.specs.Sheet.{FiltersRecord, SheetCall}
 use Rattle.sheet.proofs.Rows.{output_lines, output-phases}
-
--- what `?` hands on
-pub handed : {A : Type 0} {f : Refusal} {r : Result A Refusal} {o : Outcome A} → refusal f ≡ o
-    → r ≡ Err f → outcome r ≡ o
-handed answer-is e = ap outcome e ∙ answer-is
 
 -- a good record: its image has the size of its shape, and its readings are good
 record Good (bytes : List ℕ) (s : Shape) : Type 0 where
@@ -132,18 +126,9 @@ sheet_accepted {bytes} {readings} {output} {work} {s} answer-is = go (length_due
         (sym (short_call bytes readings output work (sym e)) ∙ sym answer-is)
 
 -- What reading and filtering such a record leaves.
-module _ {bytes readings : List ℕ} {s : Shape} where
+module _ {bytes : List ℕ} (readings : List ℕ) {s : Shape} where
   module _ {output work : ℕ} (a : SheetAccepted bytes (length readings) output work s)
-      {answer : Result Shape Refusal} {readings₁ : List ℕ}
-      (reads : ReadCall bytes readings answer readings₁) where
-    -- the reader accepts
-    pub read_passes : outcome answer ≡ accepted s
-    read_passes = reads.answer ∙ a.read
-
-    -- the buffer holds the image at its front
-    stored : readings₁ ≡ at_front (image_in bytes) readings
-    stored = reads.memory ∙ after-accepted _ _ a.read
-
+      {readings₁ : List ℕ} (stored : readings₁ ≡ at_front (image_in bytes) readings) where
     -- the buffer is long enough for the image
     pub image_room : area s ≤ length readings₁
     image_room = omega (
@@ -160,22 +145,22 @@ module _ {bytes readings : List ℕ} {s : Shape} where
 
   -- It is filtered.
   module _ {output work : List ℕ} (a : SheetAccepted bytes (length readings) (length output)
-      (length work) s) {answer : Result Shape Refusal} {readings₁ : List ℕ}
-      (reads : ReadCall bytes readings answer readings₁) {image : List ℕ} (front : image
+      (length work) s) {readings₁ : List ℕ}
+      (stored : readings₁ ≡ at_front (image_in bytes) readings) {image : List ℕ} (front : image
       ≡ take (area s) readings₁) {e : Engine} (engine : e ≡ engine_for s (length work))
       {r : Result Unit Refusal} {output₁ work₁ : List ℕ}
       (call : FilterCall e s 0 s.rows image output work r output₁ work₁) where
     -- the filter accepts
     pub filter_passes : outcome r ≡ accepted tt
     unfolding filtered_due
-    filter_passes = call.answer ∙ rw (front ∙ image_stored a reads, engine) a.filtered
+    filter_passes = call.answer ∙ rw (front ∙ image_stored a stored, engine) a.filtered
 
     -- and lent memory is as it is due
     pub record_filtered : FiltersRecord
         (accepted s) bytes readings output work readings₁ output₁ work₁
     record_filtered = record {
-      readings = stored a reads;
-      output = call.output ∙ after-accepted _ _ filter_passes ∙ rw (front ∙ image_stored a reads);
+      readings = stored;
+      output = call.output ∙ after-accepted _ _ filter_passes ∙ rw (front ∙ image_stored a stored);
       work = call.work ∙ after-accepted _ _ filter_passes ∙ rw engine;
     }
 

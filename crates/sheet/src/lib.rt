@@ -3,12 +3,14 @@
 //! text. SPECIFICATION, "Sheet".
 #![tactic(auto)]
 
-ghost use Rattle.std.specs.Prelude.{◌≡◌, ◌≤◌, length};
+ghost use Rattle.std.specs.Prelude.{◌≡◌, ◌≤◌, IfOk, length};
 ghost use Rattle.refusal.specs.Outcome.{outcome};
+ghost use Rattle.record.specs.Calls.{outcome_shape};
 ghost use Rattle.sheet_text.specs.Lines.{most_text};
 ghost use Rattle.sheet.specs.Sheet.{engine_for, sheet_due, FiltersRecord, SheetCall};
 
 use filter::Engine;
+use record::Record;
 use refusal::limits::{LEVEL_CYCLE, MOST_BYTES};
 use refusal::{Refusal, refuse_if};
 use shape::Shape;
@@ -38,17 +40,26 @@ fn engine_for(shape: Shape, room: usize) -> Engine
 }
 
 // All tests of a sheet, for buffers of so many numbers: 14, then the reader's, then the filter's.
+// Answers with the record that has passed them.
 #[tactic(auto, unfolding(refusal::specs::Outcome::first_due, crate::specs::Sheet::sheet_due))]
-fn check(bytes: &[u8], readings: usize, output: usize, work: usize) -> Result<Shape, Refusal>
-    ensures { outcome result ≡ sheet_due bytes.now readings output work }
+fn check<'a>(
+    bytes: &'a [u8],
+    readings: usize,
+    output: usize,
+    work: usize,
+) -> Result<Record<'a>, Refusal>
+    ensures answer { outcome_shape result ≡ sheet_due bytes.now readings output work }
+    ensures bytes_kept { IfOk result (λ r. r.bytes.now ≡ bytes.now) }
+    ensures room_kept { IfOk result (λ r. r.room ≡ readings) }
 {
     refuse_if(MOST_BYTES < bytes.len(), Refusal::Record)?;
-    let shape = record::validate(bytes, readings)?;
+    let parsed = record::parse(bytes, readings)?;
+    let shape = parsed.shape;
     filter::check_room(engine_for(shape, work), shape, output, work)?;
-    Ok(shape)
+    Ok(parsed)
 }
 
-// Reads and filters a record. After the tests no call refuses.
+// Reads and filters a record, whose fields are tested once. After the tests no call refuses.
 fn filter_record(
     bytes: &[u8],
     readings: &mut [u16],
@@ -60,9 +71,10 @@ fn filter_record(
     ensures memory { FiltersRecord (outcome result) bytes.now readings.old output.old work.old
         readings.new output.new work.new }
 {
-    let shape = check(bytes, readings.len(), output.len(), work.len())?;
+    let parsed = check(bytes, readings.len(), output.len(), work.len())?;
+    let shape = parsed.shape;
     let engine = engine_for(shape, work.len());
-    record::read(bytes, readings)?;
+    parsed.store(readings);
     filter::run(
         engine,
         shape,
@@ -85,7 +97,7 @@ fn filter_record(
 /// - `text`: receives the text, as much of it as there is room for; 65,536 bytes (`MOST_TEXT`) hold
 ///   every sheet.
 ///
-/// Refuses a record that is too long (14), then as `record::read` does with room for `readings`,
+/// Refuses a record that is too long (14), then as `record::parse` does with room for `readings`,
 /// then the length of the output (7) and that of the work memory (8), in this order; the places of
 /// 14, 7 and 8 are 0.
 ///

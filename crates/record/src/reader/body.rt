@@ -20,8 +20,8 @@ use shape::Shape;
 
 /// A record whose first three fields have passed their tests, and the five numbers that they hold.
 #[derive(Clone, Copy)]
-pub struct Record<'a> {
-    /// The record.
+pub struct Head<'a> {
+    /// All bytes of the record.
     pub bytes: &'a [u8],
     /// Its five numbers.
     pub shape: Shape,
@@ -29,7 +29,7 @@ pub struct Record<'a> {
     ghost headed: { HasHead bytes.now },
 }
 
-impl Record<'_> {
+impl Head<'_> {
     /// The rows of its image.
     pub fn rows(&self) -> usize
         ensures { result ≡ rows_in self.now.bytes.now }

@@ -7,7 +7,7 @@ ghost use Rattle.record_format.specs.Layout.{numbers_length};
 ghost use Rattle.record_format.specs.Fields.{numbers_at};
 ghost use Rattle.record_format.specs.Reading.{image_in, read_rules};
 
-use crate::reader::Record;
+use crate::reader::Head;
 use record_format::layout::{HEAD_LENGTH, NUMBER_LENGTH};
 use record_format::number_at;
 
@@ -21,10 +21,10 @@ fn store_numbers(bytes: &[u8], at: usize, row: &mut [u16])
     }
 }
 
-impl Record<'_> {
+impl Head<'_> {
     /// Stores the readings of all rows at the front of the buffer. What is behind them is as
     /// before.
-    pub fn store(&self, readings: &mut [u16])
+    pub fn store_rows(&self, readings: &mut [u16])
         requires { IsClear (read_rules self.now.bytes.now (length readings.old)) }
         ensures { readings.new ≡ sets readings.old 0 (image_in self.now.bytes.now) }
     {

@@ -3,7 +3,7 @@ use Rattle.std.proofs.Common.{◌≡◌, ◌-◌}
 use Rattle.lists.specs.Joined.{concat_from}
 use Rattle.refusal.proofs.Outcome.{outcome_of}
 use Rattle.record_format.specs.Reading.{rows_in, row_field_rules}
-use Rattle.record.proofs.reader.body.Record.check_rows.Given as goal
+use Rattle.record.proofs.reader.body.Head.check_rows.Given as goal
 
 abbrev pub invariant-loop-i : goal.invariant-loop-i
 invariant-loop-i l =

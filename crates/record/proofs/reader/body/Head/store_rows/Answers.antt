@@ -9,8 +9,8 @@ use Rattle.lists.proofs.Parts.{part_end}
 use Rattle.record_format.specs.Layout.{body_of, field_length}
 use Rattle.record_format.specs.Reading.{rows_in, columns_in, row_at, row_in, image_in}
 use Rattle.record_format.proofs.Readable.{length-row_in, readable}
-use Rattle.record.proofs.reader.body.Record.store.Goals as goal
-use Rattle.record.proofs.reader.body.Record.store.Goals.{In-loop-i}
+use Rattle.record.proofs.reader.body.Head.store_rows.Goals as goal
+use Rattle.record.proofs.reader.body.Head.store_rows.Goals.{In-loop-i}
 
 -- the row at hand ends within the bytes, and within the buffer
 row-end : (c : In-loop-i) → let b = c.args.self.now.bytes.now in let i = c.loop-i.i in let n =

@@ -3,7 +3,7 @@ use Rattle.std.proofs.Common.{rules}
 use Rattle.lists.specs.Joined.{concat_from}
 use Rattle.refusal.proofs.Outcome.{handed_on, passed_first}
 use Rattle.record_format.specs.Reading.{rows_in, row_field_rules, end_field_rules}
-use Rattle.record.proofs.reader.body.Record.check_body.Goals as goal
+use Rattle.record.proofs.reader.body.Head.check_body.Goals as goal
 
 pub returns-in_err-check_rows : goal.returns-in_err-check_rows
 returns-in_err-check_rows c =

@@ -2,7 +2,7 @@
 use Rattle.lists.specs.Joined.{concat_from}
 use Rattle.lists.proofs.Stores.{Stored}
 use Rattle.record_format.specs.Reading.{row_in}
-use Rattle.record.proofs.reader.body.Record.store.Given as goal
+use Rattle.record.proofs.reader.body.Head.store_rows.Given as goal
 
 abbrev pub invariant-loop-i : goal.invariant-loop-i
 invariant-loop-i l =

@@ -1,15 +1,18 @@
--- The tests of the body follow those of the head.
-use Rattle.std.proofs.Common.{◌≡◌, ℕ, List, ◌++◌, sym, ap, ◌∙◌, rules}
+-- The tests of the body follow those of the head. A record that passes both has passed all tests of
+-- the reader.
+use Rattle.std.proofs.Common.{◌≡◌, ℕ, List, ◌++◌, refl, sym, ap, ◌∙◌, rules}
 use Rattle.refusal.specs.Outcome.{Rule, IsClear, first_due}
 use Rattle.refusal.specs.Outcome.Outcome.{accepted}
-use Rattle.refusal.proofs.Outcome.{accepted_clear, accepted_value, clear_split, due-refused}
+use Rattle.refusal.proofs.Outcome.{accepted_clear, accepted_value, clear_split, clear_join}
+use Rattle.refusal.proofs.Outcome.{passed_clear, due-refused}
 use Rattle.refusal.proofs.Outcome.{refused-due, after_clear, handed_on, handed_alone, passed_alone}
 use Rattle.record_format.specs.Reading.{shape_in, mask_value_rules, body_rules, read_rules}
 use Rattle.record_format.specs.Reading.{read_due}
 use Rattle.record.specs.Stages.{head_rules}
 use Rattle.record.proofs.Stages.{headed}
-use Rattle.record.proofs.validate.Goals as goal
-use Rattle.record.proofs.validate.Goals.{In_ok-shape}
+use Rattle.record.proofs.Parsed.{handed_shape}
+use Rattle.record.proofs.parse.Goals as goal
+use Rattle.record.proofs.parse.Goals.{In_ok-shape}
 
 -- the tests of the head
 abbrev head : List ℕ → ℕ → List Rule
@@ -41,24 +44,37 @@ invariant_of-check_body c =
           (clear_split (head_rules b) (mask_value_rules (shape_in b) c.args.room) (clear c)).0;
     }
 
-pub returns-in_err-shape : goal.returns-in_err-shape
+pub invariant_of-result : goal.invariant_of-result
+unfolding read_rules
+invariant_of-result c =
+    let b = c.args.bytes.now in
+    let at = (goal.at.invariant_of-result c).In_ok-shape in
+    record {
+      shape_is = shape_is at;
+      tested = clear_join (head b c.args.room) (body_rules b) (clear at)
+          (passed_clear (body_rules b) c.in_ok-check_body.ensures);
+    }
+
+pub returns-in_err-shape-clause-answer : goal.returns-in_err-shape-clause-answer
 unfolding read_due read_rules
-returns-in_err-shape c =
+returns-in_err-shape-clause-answer c =
     let b = c.args.bytes.now in
     let s = shape_in b in
     let head-refused = sym
     (due-refused tt (refused-due s (head b c.args.room) _ _ (sym c.in_err-shape.ensures))) in
-    handed_on (head b c.args.room) s (body_rules b) head-refused (search rules)
+    handed_shape (handed_on (head b c.args.room) s (body_rules b) head-refused refl) (search rules)
 
-pub returns-in_err-check_body : goal.returns-in_err-check_body
-returns-in_err-check_body c =
+pub returns-in_err-check_body-clause-answer : goal.returns-in_err-check_body-clause-answer
+returns-in_err-check_body-clause-answer c =
     let b = c.args.bytes.now in
-    handed_alone (body_rules b) (shape_in b) c.in_err-check_body.ensures (search rules)
-    ∙ sym (body-left (goal.at.returns-in_err-check_body c).In_ok-shape)
+    let left = sym (body-left (goal.at.returns-in_err-check_body-clause-answer c).In_ok-shape) in
+    handed_shape
+    (handed_alone (body_rules b) (shape_in b) c.in_err-check_body.ensures refl ∙ left)
+    (search rules)
 
-pub returns : goal.returns
-returns c =
+pub returns-clause-answer : goal.returns-clause-answer
+returns-clause-answer c =
     let b = c.args.bytes.now in
-    ap accepted (shape_is (goal.at.returns c).In_ok-shape)
+    ap accepted (shape_is (goal.at.returns-clause-answer c).In_ok-shape)
     ∙ passed_alone (body_rules b) (shape_in b) c.in_ok-check_body.ensures
-    ∙ sym (body-left (goal.at.returns c).In_ok-shape)
+    ∙ sym (body-left (goal.at.returns-clause-answer c).In_ok-shape)

@@ -3,7 +3,7 @@ use Rattle.std.proofs.Common.{◌≡◌, ◌+◌, drop}
 use Rattle.lists.specs.First.{first_bad}
 use Rattle.cycle.specs.Silence.{is_reading}
 use Rattle.record_format.specs.Reading.{cycle_in, row_in}
-use Rattle.record.proofs.reader.body.Record.check_readings.Given as goal
+use Rattle.record.proofs.reader.body.Head.check_readings.Given as goal
 
 abbrev pub invariant-loop-k : goal.invariant-loop-k
 invariant-loop-k l =

@@ -14,8 +14,8 @@ use Rattle.record_format.specs.Fields.{number_at}
 use Rattle.record_format.specs.Reading.{cycle_in, columns_in, row_at, row_in}
 use Rattle.record_format.proofs.FieldRead.{get_or-numbers_at}
 use Rattle.record_format.proofs.Readable.{length-row_in}
-use Rattle.record.proofs.reader.body.Record.check_readings.Goals as goal
-use Rattle.record.proofs.reader.body.Record.check_readings.Goals.{After-number_at-x, Start}
+use Rattle.record.proofs.reader.body.Head.check_readings.Goals as goal
+use Rattle.record.proofs.reader.body.Head.check_readings.Goals.{After-number_at-x, Start}
 
 -- the cycle is the record's
 cycle_is : (c : Start) → c.args.self.now.shape.cycle ≡ cycle_in c.args.self.now.bytes.now

@@ -5,7 +5,7 @@ use Rattle.lists.proofs.Joined.{concat_from-first, concat_from-none}
 use Rattle.refusal.specs.Outcome.{first_due}
 use Rattle.refusal.proofs.Outcome.{outcome_of, handed_on, passed_clear, after_clear}
 use Rattle.record_format.specs.Reading.{rows_in, row_field_rules}
-use Rattle.record.proofs.reader.body.Record.check_rows.Goals as goal
+use Rattle.record.proofs.reader.body.Head.check_rows.Goals as goal
 
 -- the tests from row i on begin with those of row i
 from : (b : List ℕ) (i : ℕ) → i < rows_in b
