@@ -27,24 +27,27 @@ module _ (image : Image) (ready : IsReady level_cycle image.shape image.readings
   abbrev change_at : ℕ → ℕ → ℕ → ℕ
   change_at = row_change image.shape image.readings.now
 
-  -- the sums of the next row are below 2 ^ 31
-  pub down_signed : {sums : List ℕ} → j < image.shape.columns → HoldsColumnSums image (i + 1) j sums
-      → AreSigned (slice_index sums) (length sums)
-  down_signed within t q h = rw (t.holds q (omega (arith, t.len)))
-      (window-signed image.shape image.readings.now ready (i + 1) j next within q
-      (omega (arith, t.len)))
+  -- At column 0 the differences are added as they are.
+  module _ {sums change : List ℕ} (within : j < image.shape.columns)
+      (t : HoldsColumnSums image i j sums) (d : HoldsRowChange image i j change) where
+    -- a sum with its difference added is that of the next row
+    added-is : (q : ℕ) → q < image.shape.cycle → added_sum sums change q ≡ column (i + 1) j q
+    added-is q h = sym (added_sum-is (slice_index sums q) (slice_index change q)) ∙ rw (
+      t.holds q h,
+      d.holds q h,
+    ) (row_next image.shape image.readings.now ready i j q next within h)
 
-  -- at column 0 the differences are added as they are
-  pub down_added : {sums change new : List ℕ} → j < image.shape.columns
-      → HoldsColumnSums image i j sums → HoldsRowChange image i j change
-      → Tabulates new (added_sum sums change)
-      → length new ≡ length sums → HoldsColumnSums image (i + 1) j new
-  down_added {sums = sums} {change = change} within t d each len =
-      ticks_set each (len ∙ t.len)
-      (λ q h. sym (added_sum-is (slice_index sums q) (slice_index change q)) ∙ rw (
-        t.holds q h,
-        d.holds q h,
-      ) (row_next image.shape image.readings.now ready i j q next within h))
+    -- so the sums that the code computes are below 2 ^ 31
+    pub down_added_signed : AreSigned (added_sum sums change) (length sums)
+    down_added_signed q h =
+        let tick : q < image.shape.cycle = omega (arith, t.len) in
+        rw (added-is q tick)
+        (window-signed image.shape image.readings.now ready (i + 1) j next within q tick)
+
+    -- and are those of row i + 1
+    pub down_added : {new : List ℕ} → Tabulates new (added_sum sums change)
+        → length new ≡ length sums → HoldsColumnSums image (i + 1) j new
+    down_added each len = ticks_set each (len ∙ t.len) added-is
 
   -- At a later column they are moved on by a column, and then added.
   module _ {sums change in₁ in₂ out₁ out₂ : List ℕ} (within : j + 1 < image.shape.columns)

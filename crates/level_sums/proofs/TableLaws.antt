@@ -2,12 +2,14 @@
 -- 0 if it is silent. The loop that fills the table.
 use Prim.Native.Nat.{ℕ, zero, suc, ◌+◌, ◌-◌, ◌*◌, ◌%◌, ◌^◌, ◌≤◌, ◌<◌}
 use mathlib.Core.Path.{◌≡◌, refl, ap, sym, ◌∙◌}
-use mathlib.Core.List.{List}
+use mathlib.Core.List.{List, ◌++◌}
 use native.Mathlib.Omega.{arith}
-use native.Mathlib.Decide.{ℕ_discrete}
-use native.Mathlib.Nat.{add_comm, mod-lt}
-use lib.ListN.{length, get_or, set, replicate, length-set, length-replicate}
+use native.Mathlib.Decide.{ℕ_discrete, dec_lt}
+use native.Mathlib.Nat.{add_comm, mod-lt, add-mod_left}
+use lib.ListN.{length, get_or, set, take, drop, replicate, length-set, length-replicate}
 use lib.Seq.{get_or-set_same, get_or-set_other}
+use Rattle.std.proofs.Common.{rules}
+use Rattle.std.proofs.lemmas.List.{places}
 use Rattle.refusal.specs.Limits.{level_cycle}
 use Rattle.cycle.specs.Distance.{distance}
 use Rattle.cycle.specs.Silence.{silent}
@@ -94,12 +96,38 @@ filling_turn {c} {table} {k} {v} f h some g e = record {
         rw d (omega (arith, v_small, get_or-set_same table k v 0 (omega (arith, f.len))))
     all l (no d) = omega (arith, get_or-set_other table k l v 0 d, f.small l)
 
--- filled up to place 2 c, it is the table of the cycle
-pub filling_all : {c : ℕ} {table : List ℕ} {k : ℕ} → IsFilledTo c table k → k ≡ 2 * c → IsTable c table
-filling_all f e = record {
-  len = f.len;
-  holds = λ l i. f.holds l (omega arith);
-  zeros =
-      λ l i. f.zeros l (omega arith);
-  small = f.small;
-}
+-- filled up to place c, and with the first round copied over the second, it is the table of the cycle
+pub filling_all : {c : ℕ} {table front back second : List ℕ} {k : ℕ} → IsFilledTo c table k → k ≡ c
+    → c ≤ level_cycle → front ≡ take c table → back ≡ drop c table → second ≡ front
+    → IsTable c (front ++ (second ++ drop c back))
+filling_all {c} {table} f e fits is-front is-back is-second =
+    rw (is-second, is-front, is-back) (record {
+      len = search (rules, places);
+      holds = λ l h. go l h (dec_lt l c);
+      zeros = λ l h. rest l h ∙ f.zeros l (omega arith);
+      small = λ l. all l (dec_lt l c) (dec_lt l (2 * c));
+    })
+  where
+    all_of : List ℕ
+    all_of = take c table ++ (take c table ++ drop c (drop c table))
+
+    first : (l : ℕ) → l < c → get_or all_of l 0 ≡ get_or table l 0
+    first l h = search (rules, places)
+
+    copied : (l : ℕ) → c ≤ l → l < 2 * c → get_or all_of l 0 ≡ get_or table (l - c) 0
+    copied l h g = search (rules, places)
+
+    rest : (l : ℕ) → 2 * c ≤ l → get_or all_of l 0 ≡ get_or table l 0
+    rest l h = search (rules, places)
+
+    go : (l : ℕ) → l < 2 * c → Dec (l < c) → get_or all_of l 0 ≡ distance c (l % c) 0
+    go l h (yes d) = first l d ∙ f.holds l (omega arith)
+    go l h (no d) =
+        let back : c + (l - c) ≡ l = omega arith in
+        copied l (omega arith) h ∙ f.holds (l - c) (omega arith)
+        ∙ ap (λ (x : ℕ). distance c x 0) (sym (add-mod_left c (l - c)) ∙ ap (λ (x : ℕ). x % c) back)
+
+    all : (l : ℕ) → Dec (l < c) → Dec (l < 2 * c) → get_or all_of l 0 < 2 ^ 16
+    all l (yes d) g = omega (arith, first l d, f.small l)
+    all l (no d) (yes g) = omega (arith, copied l (omega arith) g, f.small (l - c))
+    all l (no d) (no g) = omega (arith, rest l (omega arith), f.small l)

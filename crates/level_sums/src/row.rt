@@ -5,7 +5,7 @@ ghost use Rattle.level_sums.specs.Sums.{IsRow, IsColumn, HoldsBlockSums, HoldsCo
 ghost use Rattle.level_sums.specs.Sums.{HoldsRowSums};
 
 use crate::source::Source;
-use sums::{add, swap};
+use sums::{add, copy, swap};
 
 /// Row i of an image.
 #[derive(Clone, Copy)]
@@ -72,7 +72,7 @@ impl<'a> Row<'a> {
         }
         let (before, rest) = sums.split_at_mut(j * cycle);
         let column = &mut rest[..cycle];
-        column.copy_from_slice(&before[(j - 1) * cycle..]);
+        copy(column, &before[(j - 1) * cycle..]);
         self.next_column(j - 1, column);
     }
 }

@@ -5,7 +5,7 @@ ghost use Rattle.level_sums.specs.Sums.{IsColumn, HoldsColumnSums, HoldsRowChang
 ghost use Rattle.level_sums.specs.Sums.{lowest_sum};
 
 use crate::source::Source;
-use sums::{add, lowest_of, move_sums, swap};
+use sums::{add_lowest, move_sums, swap};
 
 /// The step from row i of an image to row i + 1.
 #[derive(Clone, Copy)]
@@ -42,8 +42,7 @@ impl<'a> Step<'a> {
         ensures lowest { result ≡ lowest_sum self.now.source.image (self.now.i + 1) 0 }
     {
         self.first_change(change);
-        add(sums, change);
-        lowest_of(sums)
+        add_lowest(sums, change)
     }
 
     // The sums of column j + 1 of row i + 1, from those of row i and the differences at column j;

@@ -1,34 +1,25 @@
 //! The level engine's table of distances: what a reading adds to the sums at all ticks stands in it
 //! as contiguous numbers, the distances of a heard reading, or zeros for a silent one.
 
-ghost use Rattle.std.specs.Prelude.{◌≡◌, ◌*◌, ◌%◌, ◌≤◌, ◌<◌, replicate};
+ghost use Rattle.std.specs.Prelude.{◌≡◌, ◌≤◌, ◌<◌, replicate};
 ghost use Rattle.refusal.specs.Limits.{level_cycle};
 ghost use Rattle.cycle.specs.Distance.{distance};
 ghost use Rattle.level_sums.specs.Table.{IsTable, table_length};
 
 use cycle::apart;
 use refusal::limits::LEVEL_CYCLE;
+use sums::copy;
 
 /// The numbers in the table: two rounds of the longest cycle that the level engine takes, and one
 /// of zeros.
 pub const TABLE: usize = (3 * LEVEL_CYCLE) as usize;
 
-// k modulo the cycle, for k below two cycles: without a division, since it is asked 2 C times in a
-// call.
-fn within_cycle(cycle: usize, k: usize) -> usize
-    requires { k < 2 * cycle }
-    ensures { result ≡ k % cycle }
-{
-    if k < cycle { k } else { k - cycle }
-}
-
-// The distance from tick k modulo the cycle to tick 0.
-fn distance_at(cycle: usize, k: usize) -> u32
+// The distance from a tick to tick 0.
+fn distance_at(cycle: usize, tick: usize) -> u32
     requires limit { cycle ≤ level_cycle }
-    requires rounds { k < 2 * cycle }
-    ensures { result ≡ distance cycle (k % cycle) 0 }
+    requires within { tick < cycle }
+    ensures { result ≡ distance cycle tick 0 }
 {
-    let tick = within_cycle(cycle, k);
     apart(cycle as u16, tick as u16, 0) as u32
 }
 
@@ -41,7 +32,9 @@ pub fn distances(cycle: usize, table: &mut [u32; TABLE])
     requires zeros { table.old ≡ replicate table_length 0 }
     ensures { IsTable cycle table.new }
 {
-    for k in 0..2 * cycle {
-        table[k] = distance_at(cycle, k);
+    for tick in 0..cycle {
+        table[tick] = distance_at(cycle, tick);
     }
+    let (round, rest) = table.split_at_mut(cycle);
+    copy(&mut rest[..cycle], round);
 }

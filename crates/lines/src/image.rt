@@ -13,6 +13,7 @@ use crate::Line;
 use crate::centres::{all_heard, stand_in};
 use crate::edges::mirror_edges;
 use shape::Shape;
+use sums::copy;
 use window::mirror_index;
 
 /// An image that has passed its tests, with the sizes of the mask.
@@ -74,7 +75,7 @@ impl<'a> Image<'a> {
         let columns = self.shape.columns as usize;
         let reach = (self.shape.mask_columns / 2) as usize;
         let row = self.row(self.row_at(position));
-        line[reach..reach + columns].copy_from_slice(row);
+        copy(&mut line[reach..reach + columns], row);
         mirror_edges(line, columns, reach);
     }
 
@@ -103,7 +104,7 @@ impl<'a> Image<'a> {
         ensures { AreCentres self.now.shape self.now.readings.now i line.new }
     {
         let columns = self.shape.columns as usize;
-        line[..columns].copy_from_slice(self.row(i));
+        copy(&mut line[..columns], self.row(i));
         for k in 0..self.shape.mask_rows as usize {
             if all_heard(&line[..columns]) {
                 break;

@@ -11,7 +11,7 @@ use crate::Changes;
 use crate::passes::{begin, distances, distances_to_two, grow};
 use lines::{Image, Line};
 use median::is_short;
-use sums::add;
+use sums::{add, copy};
 
 /// A line whose planes are built, for the windows of row i.
 #[derive(Clone, Copy)]
@@ -111,7 +111,7 @@ impl<'a> Built<'a> {
             let l = mask - 1 - m;
             let start = l * columns;
             self.count(0, m, &mut changes[..columns + l], gains, row, other);
-            planes[start..start + columns].copy_from_slice(&changes[l..l + columns]);
+            copy(&mut planes[start..start + columns], &changes[l..l + columns]);
         }
         changes[..columns + mask].fill(0);
     }

@@ -15,6 +15,20 @@ ghost use Rattle.sums.specs.Parts.{added_sum, swapped_sum, advanced_change, incr
 /// A number and no `Option`, so that a loop over sums packs.
 pub const NO_SUM: u32 = 2147483647;
 
+/// Copies numbers over others, which are as many.
+///
+/// It is a loop of its own, which compiles to packed moves: std's `copy_from_slice` calls `memmove`
+/// for each part, a name that a program without a C library would have to have for it.
+pub fn copy<T: Copy>(to: &mut [T], from: &[T])
+    requires { length to.old ≡ length from.now }
+    ensures len { length to.new ≡ length to.old }
+    ensures after { to.new ≡ from.now }
+{
+    for (k, number) in to.iter_mut().enumerate() {
+        *number = from[k];
+    }
+}
+
 /// Adds to each sum its number of `entering`, which is at least as long.
 pub fn add(sums: &mut [u32], entering: &[u32])
     requires { length sums.old ≤ length entering.now }
@@ -55,6 +69,22 @@ pub fn lowest_of(sums: &[u32]) -> u32
 {
     let mut least = NO_SUM;
     for sum in sums {
+        least = lower(*sum, least);
+    }
+    least
+}
+
+/// Adds to each sum its number of `changes`, which is at least as long, and answers the lowest of
+/// the new sums, which are below 2^31.
+pub fn add_lowest(sums: &mut [u32], changes: &[u32]) -> u32
+    requires long { length sums.old ≤ length changes.now }
+    requires signed { AreSigned (added_sum sums.old changes.now) (length sums.old) }
+    ensures sums { Tabulates sums.new (added_sum sums.old changes.now) }
+    ensures lowest { result ≡ lowest (slice_index sums.new) (length sums.old) }
+{
+    let mut least = NO_SUM;
+    for (q, sum) in sums.iter_mut().enumerate() {
+        *sum = sum.wrapping_add(changes[q]);
         least = lower(*sum, least);
     }
     least

@@ -1,6 +1,6 @@
--- Before place k the table is filled up to it.
+-- Before a tick the first round of the table is filled up to it.
 use Rattle.level_sums.proofs.TableLaws.{IsFilledTo}
 use Rattle.level_sums.proofs.table.distances.Given as goal
 
-abbrev pub invariant-loop-k : goal.invariant-loop-k
-invariant-loop-k l = IsFilledTo l.cycle l.table l.k
+abbrev pub invariant-loop-tick : goal.invariant-loop-tick
+invariant-loop-tick l = IsFilledTo l.cycle l.table l.tick

@@ -7,8 +7,8 @@ use Rattle.lists.proofs.Parts.{part_end}
 use Rattle.level_sums.proofs.RowSums.{before_ends, column_changed, column_reads, row_more}
 use Rattle.level_sums.proofs.row.Row.set_up.Goals as goal
 
-pub copy_from_slice-requires : goal.copy_from_slice-requires
-copy_from_slice-requires c =
+pub copy-requires : goal.copy-requires
+copy-requires c =
     let source = c.args.self.now.source in
     let room = part_end c.args.j source.image.shape.columns source.image.shape.cycle
     c.requires.image_column in
@@ -22,7 +22,7 @@ next_column-requires-clause-column c =
     let room = part_end c.args.j source.image.shape.columns source.image.shape.cycle
     c.requires.image_column in
     let ends = before_ends c.args.j source.image.shape.cycle c.if-j-eq0.false in
-    rw (c.copy_from_slice.ensures.after, c.split_at_mut-before.ensures.front)
+    rw (c.copy.ensures.after, c.split_at_mut-before.ensures.front)
     (column_reads source.image row.i (c.args.j - 1) c.args.sums.now c.requires.before (omega arith)
     (omega (arith, c.if-j-eq0.false)) (omega (arith, ends))
     (omega (arith, room)) (simp length-take (omega (arith, room, ends))))

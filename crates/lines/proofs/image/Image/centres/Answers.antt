@@ -9,9 +9,9 @@ pub loop-k-init : goal.loop-k-init
 loop-k-init c =
     let sizes = shape_clear longest_cycle c.args.self.now.shape c.args.self.now.ready.shape in
     standing_start (omega arith)
-    (changed_part c.copy_from_slice.new.self (omega (arith, sizes.columns_fit))
-    (omega arith) c.copy_from_slice.ensures.len
-    (λ q h. rw (c.copy_from_slice.ensures.after, c.row.ensures)))
+    (changed_part c.copy.new.to (omega (arith, sizes.columns_fit))
+    (omega arith) c.copy.ensures.len
+    (λ q h. rw (c.copy.ensures.after, c.row.ensures)))
 
 pub returns-after-loop-k : goal.returns-after-loop-k
 returns-after-loop-k c = standing_all c.loop-k.invariant (omega arith)

@@ -21,6 +21,6 @@ returns c =
     line_made image.shape image.readings.now c.args.position c.row_at.ensures.place
     sizes.columns_some
     (padded-reading image.ready (omega arith) c.args.position) len
-    (changed_part c.copy_from_slice.new.self room (omega arith) c.copy_from_slice.ensures.len
-    (λ q h. rw (c.copy_from_slice.ensures.after, c.row-row.ensures)))
+    (changed_part c.copy.new.to room (omega arith) c.copy.ensures.len
+    (λ q h. rw (c.copy.ensures.after, c.row-row.ensures)))
     c.mirror_edges.ensures

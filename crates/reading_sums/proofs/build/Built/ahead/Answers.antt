@@ -37,15 +37,15 @@ loop-m-preserved c =
     let done = counted-part {z = c.loop-m.changes} 0 c.loop-m.m 0 _ n c.count.new.changes refl
     (omega (arith, room, long)) (omega arith) c.count.auto.changes c.count.ensures in
     let put = changed_part {w = c.loop-m.planes} {base = base}
-    {n = s.columns} c.copy_from_slice.new.self
+    {n = s.columns} c.copy.new.to
     (omega (arith, plane_within s l (omega arith), c.requires, c.loop-m.auto.planes))
-    (omega arith) c.copy_from_slice.ensures.len
-    {f = λ j. get_or c.copy_from_slice.new.self j 0} (λ j h. refl) in
+    (omega arith) c.copy.ensures.len
+    {f = λ j. get_or c.copy.new.to j 0} (λ j h. refl) in
     record {
       sweep = sweep_more c.loop-m.invariant.sweep c.loop-m-test.true (λ j. 0) done put
           (λ j h.
           let inside : j < l + s.columns - l = omega arith in
-          let copied = ap (λ (x : List ℕ). get_or x j 0) c.copy_from_slice.ensures.after
+          let copied = ap (λ (x : List ℕ). get_or x j 0) c.copy.ensures.after
           ∙ part-reads _ l _ j inside in
           omega (arith, copied, put.holds j h, c.type_inv.planes (base + j)))
           (λ j h. omega arith);
