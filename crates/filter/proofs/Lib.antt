@@ -1,4 +1,5 @@
 pub mod CallLaws
+pub mod Groups
 pub mod Guarantees
 pub mod JobLaws
 pub mod Order

@@ -14,7 +14,7 @@ use std::ops::Range;
 /// memory for the `need` of an engine.
 ///
 /// Refuses the length of the output (7), then that of the work memory (8), at place 0.
-#[tactic(auto, unfolding(refusal::specs::Outcome::first_due))]
+#[tactic(auto, using(crate::proofs::Groups::memory_in_row))]
 pub fn check_memory(phases: usize, need: usize, output: usize, work: usize) -> Result<(), Refusal>
     ensures { outcome result ≡ first_due (memory_rules phases need output work) tt }
 {
@@ -27,7 +27,7 @@ pub fn check_memory(phases: usize, need: usize, output: usize, work: usize) -> R
 ///
 /// Refuses the range of rows (5), the length of the input (6), that of the output (7), that of the
 /// work memory (8), then a reading (9), in this order.
-#[tactic(auto, unfolding(refusal::specs::Outcome::first_due))]
+#[tactic(auto, using(crate::proofs::Groups::readings_in_row, crate::proofs::Groups::input_in_row, crate::proofs::Groups::rows_in_row))]
 pub fn check_image(
     shape: Shape,
     need: usize,
@@ -51,7 +51,6 @@ pub fn check_image(
 ///
 /// Refuses the cycle (1), the size of the image (2), the mask (3), the length of the output (7),
 /// then that of the work memory (8), in this order and at place 0.
-#[tactic(auto, unfolding(refusal::specs::Outcome::first_due, crate::specs::Calls::room_due))]
 pub fn check_room(engine: Engine, shape: Shape, output: usize, work: usize) -> Result<(), Refusal>
     ensures { outcome result ≡ room_due engine shape output work }
 {
@@ -60,7 +59,6 @@ pub fn check_room(engine: Engine, shape: Shape, output: usize, work: usize) -> R
 }
 
 /// All tests of a filter call: 1 to 3 on the shape, then 5 to 9.
-#[tactic(auto, unfolding(refusal::specs::Outcome::first_due, crate::specs::Calls::filter_due))]
 pub fn check_filter(
     engine: Engine,
     shape: Shape,

@@ -10,3 +10,4 @@ pub mod Pushes
 pub mod Row
 pub mod Choosing
 pub mod Passes
+pub mod Groups

@@ -10,7 +10,7 @@ use refusal::limits::{LIVE_CYCLE, LIVE_LENGTH};
 use shape::check_side;
 
 /// Tests 1 and 3 of a window: its cycle in ticks, then its length in readings.
-#[tactic(auto, unfolding(refusal::specs::Outcome::first_due))]
+#[tactic(auto, using(crate::proofs::Groups::window_in_row))]
 pub fn check_window(cycle: u32, length: u32) -> Result<(), Refusal>
     ensures { outcome result ≡ first_due (window_rules cycle length) tt }
 {
@@ -19,7 +19,7 @@ pub fn check_window(cycle: u32, length: u32) -> Result<(), Refusal>
 }
 
 /// The tests of a push: 1 and 3 of the window, then 9 of the reading.
-#[tactic(auto, unfolding(refusal::specs::Outcome::first_due))]
+#[tactic(auto, using(crate::proofs::Groups::push_in_row))]
 pub fn check_push(cycle: u32, length: u32, reading: u16) -> Result<(), Refusal>
     ensures { outcome result ≡ first_due (push_rules cycle length reading) tt }
 {
