@@ -8,7 +8,7 @@ use borrow.Rule.Slice.PartMut.{put_mid}
 use lib.ListN.{length, get_or, take, drop, length-take, length-drop}
 use lib.Seq.{get_or-take}
 use Rattle.lists.proofs.Parts.{part_end}
-use Rattle.sums.specs.Memory.{Changed}
+use Rattle.sums.specs.Memory.{Changed, Outside}
 use Rattle.sums.proofs.Memory.{changed_part, part-reads}
 use Rattle.lines.specs.declared.image.Image.{Image}
 use Rattle.level_sums.specs.Sums.{HoldsColumnSums, HoldsRowSums, HoldsRowChange, IsDescending}
@@ -44,6 +44,11 @@ module _ (image : Image) (i j : ℕ) where
       go (yes d) = rw d (x.holds q h)
       go (no d) = x.before (l * c + q) (omega (arith, part_end l j c (omega arith)))
           ∙ r l (omega arith) (omega arith) q h
+
+  -- a change of column j is none outside it
+  pub column_outside : {w w' : List ℕ} {f : ℕ → ℕ} → Changed w w' (j * c) c f
+      → Outside w w' (j * c) c
+  column_outside x = record { len = x.len; before = x.before; after = x.after }
 
   -- a change of column j leaves the columns after it as they were
   pub row_rest : {w w' : List ℕ} {m : ℕ} {f : ℕ → ℕ} → HoldsRowSums image i w j m

@@ -1,6 +1,7 @@
 //! The sums of a row's columns, set up afresh.
 
-ghost use Rattle.std.specs.Prelude.{◌+◌, ◌<◌};
+ghost use Rattle.std.specs.Prelude.{◌+◌, ◌*◌, ◌<◌};
+ghost use Rattle.sums.specs.Memory.{Outside};
 ghost use Rattle.level_sums.specs.Sums.{IsRow, IsColumn, HoldsBlockSums, HoldsColumnSums};
 ghost use Rattle.level_sums.specs.Sums.{HoldsRowSums};
 
@@ -30,8 +31,8 @@ impl<'a> Row<'a> {
         }
     }
 
-    // The sums of the window of column 0.
-    fn first_column(&self, sums: &mut [u32])
+    /// Makes C numbers, whatever they are, the sums of the window of column 0.
+    pub fn first_column(&self, sums: &mut [u32])
         requires { IsColumn self.now.source.image sums.old }
         ensures { HoldsColumnSums self.now.source.image self.now.i 0 sums.new }
     {
@@ -41,8 +42,9 @@ impl<'a> Row<'a> {
         }
     }
 
-    // The sums of column j + 1, from those of column j.
-    fn next_column(&self, j: usize, sums: &mut [u32])
+    /// Moves the C sums of column j on to column j + 1: the mask column that comes in is added, the
+    /// one that goes out taken off.
+    pub fn next_column(&self, j: usize, sums: &mut [u32])
         requires next { j + 1 < self.now.source.image.shape.columns }
         requires column { HoldsColumnSums self.now.source.image self.now.i j sums.old }
         ensures { HoldsColumnSums self.now.source.image self.now.i (j + 1) sums.new }
@@ -59,12 +61,14 @@ impl<'a> Row<'a> {
     ///
     /// `sums` has C numbers for each column of the image. Column 0 adds up its whole window; each
     /// other column takes the sums of the column before it, adds the mask column that comes in and
-    /// takes off the one that goes out.
+    /// takes off the one that goes out. The other columns are as before.
     pub fn set_up(&self, j: usize, sums: &mut [u32])
         requires image_column { j < self.now.source.image.shape.columns }
         requires room { IsRow self.now.source.image sums.old }
         requires before { HoldsRowSums self.now.source.image self.now.i sums.old 0 j }
-        ensures { HoldsRowSums self.now.source.image self.now.i sums.new 0 (j + 1) }
+        ensures sums { HoldsRowSums self.now.source.image self.now.i sums.new 0 (j + 1) }
+        ensures others { let c = self.now.source.image.shape.cycle in
+            Outside sums.old sums.new (j * c) c }
     {
         let cycle = self.source.image.shape.cycle as usize;
         if j == 0 {

@@ -33,8 +33,10 @@ impl<'a> Step<'a> {
         }
     }
 
-    // The sums of column 0 of row i + 1, from those of row i; answers the lowest of them.
-    fn start_row(&self, sums: &mut [u32], change: &mut [u32]) -> u32
+    /// Moves the sums of column 0 from row i to row i + 1; answers the lowest of the new ones.
+    ///
+    /// `change`, C numbers, whatever they are, gets the differences between the two rows there.
+    pub fn start_row(&self, sums: &mut [u32], change: &mut [u32]) -> u32
         requires ticks { IsColumn self.now.source.image change.old }
         requires column { HoldsColumnSums self.now.source.image self.now.i 0 sums.old }
         ensures differences { HoldsRowChange self.now.source.image self.now.i 0 change.new }
@@ -45,9 +47,10 @@ impl<'a> Step<'a> {
         add_lowest(sums, change)
     }
 
-    // The sums of column j + 1 of row i + 1, from those of row i and the differences at column j;
-    // answers the lowest of them.
-    fn advance(&self, j: usize, sums: &mut [u32], change: &mut [u32]) -> u32
+    /// Moves the sums of column j + 1 from row i to row i + 1; answers the lowest of the new ones.
+    ///
+    /// `change` has the C differences between the two rows at column j, then those at column j + 1.
+    pub fn advance(&self, j: usize, sums: &mut [u32], change: &mut [u32]) -> u32
         requires next_column { j + 1 < self.now.source.image.shape.columns }
         requires differences { HoldsRowChange self.now.source.image self.now.i j change.old }
         requires column { HoldsColumnSums self.now.source.image self.now.i (j + 1) sums.old }

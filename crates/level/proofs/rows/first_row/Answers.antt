@@ -18,7 +18,7 @@ column : (c : After-set_up) → let row = c.args.row.now in let image = row.sour
 column c =
     let row = c.args.row.now in
     let source = row.source in
-    column_lent source.image row.i c.loop-j.j c.set_up.new.sums c.set_up.ensures (omega arith)
+    column_lent source.image row.i c.loop-j.j c.set_up.new.sums c.set_up.ensures.sums (omega arith)
     (omega arith)
     (omega (
       arith,
@@ -42,7 +42,7 @@ loop-j-preserved c =
     let source = row.source in
     record {
       room = c.set_up.auto.sums ∙ c.loop-j.invariant.room;
-      sums = c.set_up.ensures;
+      sums = c.set_up.ensures.sums;
       phases = begun_more c.loop-j.invariant.phases _ (omega arith)
           (chosen source.image source.ready row.inside (omega (arith, c.requires.width))
           (c.centres.ensures.holds c.loop-j.j (omega (arith, c.requires.width)))

@@ -4,7 +4,8 @@ use mathlib.Core.Path.{◌≡◌, refl}
 use native.Mathlib.Omega.{arith}
 use lib.ListN.{length-take, length-drop}
 use Rattle.lists.proofs.Parts.{part_end}
-use Rattle.level_sums.proofs.RowSums.{before_ends, column_changed, column_reads, row_more}
+use Rattle.level_sums.proofs.RowSums.{before_ends, column_changed, column_outside}
+use Rattle.level_sums.proofs.RowSums.{column_reads, row_more}
 use Rattle.level_sums.proofs.row.Row.set_up.Goals as goal
 
 pub copy-requires : goal.copy-requires
@@ -33,13 +34,11 @@ returns c =
     let source = row.source in
     let j = c.args.j in
     let e : j - 1 + 1 ≡ j = omega (arith, c.if-j-eq0.false) in
-    row_more source.image row.i j c.requires.before
-    (rw (c.split_at_mut-before.ensures.front, c.split_at_mut-before.ensures.back)
-    (column_changed source.image row.i j
-    (omega (
-      arith,
-      c.requires.room,
-      part_end j source.image.shape.columns
-          source.image.shape.cycle c.requires.image_column,
-    )) refl
-    (rw e at c.next_column.ensures)))
+    let room = part_end j source.image.shape.columns source.image.shape.cycle
+    c.requires.image_column in
+    let column = column_changed source.image row.i j {w = c.args.sums.now}
+    (omega (arith, c.requires.room, room)) refl (rw e at c.next_column.ensures) in
+    rw (c.split_at_mut-before.ensures.front, c.split_at_mut-before.ensures.back) (record {
+      sums = row_more source.image row.i j c.requires.before column;
+      others = column_outside source.image row.i j column;
+    })
