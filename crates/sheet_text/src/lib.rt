@@ -5,7 +5,8 @@
 
 mod text;
 
-ghost use Rattle.std.specs.Prelude.{◌≡◌, ◌++◌, ℕ, ◌≤◌, ◌<◌, length};
+ghost use Rattle.std.specs.Prelude.{◌≡◌, ◌++◌, ℕ, ◌≤◌, ◌<◌, length, codes};
+ghost use Rattle.std.specs.Fmt.{signed_decimal};
 ghost use Rattle.refusal.specs.Limits.{most_rows, most_columns};
 ghost use Rattle.refusal.specs.Table.{number_of, place_of};
 ghost use Rattle.refusal.specs.Outcome.{IsClear};
@@ -79,6 +80,13 @@ fn append_phases(text: &mut Text, row: &[u16])
     }
 }
 
+// A drift, behind its word.
+fn append_drift(text: &mut Text, drift: i32)
+    ensures { AppendsText text.old (codes " drift " ++ signed_decimal drift) text.new }
+{
+    append_counted(text, b" drift ", drift);
+}
+
 // The line of a row: its index, its phases and their drift.
 fn append_row(text: &mut Text, cycle: u32, i: usize, row: &[u16])
     requires { IsClear (row_rules cycle row.now) }
@@ -88,7 +96,7 @@ fn append_row(text: &mut Text, cycle: u32, i: usize, row: &[u16])
     append_counted(text, b"row ", i);
     text.append(b":");
     append_phases(text, row);
-    append_counted(text, b" drift ", drift);
+    append_drift(text, drift);
     text.append(b"\n");
 }
 

@@ -25,5 +25,4 @@ returns c =
     let row = appended_more
     (appended_more c.append_counted.ensures c.append.ensures) c.append_phases.ensures in
     appended_more (appended_counted (codes " drift ") _ row
-    (rw (to_z-fits c.unwrap-drift.type_inv
-    ∙ number) at c.append_counted-2.ensures)) c.append-2.ensures
+    (rw (to_z-fits c.unwrap-drift.type_inv ∙ number) at c.append_drift.ensures)) c.append-2.ensures
