@@ -10,7 +10,6 @@
 #![tactic(auto)]
 
 use refusal::Refusal;
-use std::alloc::Global;
 use std::io::{BufWriter, Write};
 use std::{array, fmt, io};
 use test_support::cases::{DECIMAL, MOST_NUMBERS};
@@ -35,14 +34,16 @@ fn print<T: fmt::Display + Drop>(
     writeln!(out, "{}", Answer(answer))
 }
 
-// Runs the case of a line. Each word is a call with arguments of its own.
-fn run_line(out: &mut impl Write, alloc: Global, line: &[u8]) -> io::Result<()> {
+// Runs the case of a line, whose ticks are stored in lent memory. Each word is a call with
+// arguments of its own.
+fn run_line(out: &mut impl Write, memory: &mut [u16], line: &[u8]) -> io::Result<()> {
     let (head, ticks) = cases::split_once(line, b':');
     let mut cycle = [0];
     cases::numbers(head, DECIMAL, &mut cycle);
     let [cycle] = cycle;
-    let ticks = cases::readings(alloc, ticks, MOST_NUMBERS)?;
-    let first: [u16; 3] = array::from_fn(|k| cases::nth(&ticks, k));
+    let count = cases::store_readings(ticks, memory);
+    let ticks = &memory[..count];
+    let first: [u16; 3] = array::from_fn(|k| cases::nth(ticks, k));
     let [a, b, w] = first;
     if line.starts_with(b"distance") {
         print(
@@ -60,7 +61,7 @@ fn run_line(out: &mut impl Write, alloc: Global, line: &[u8]) -> io::Result<()> 
     } else {
         out.write_all(line)?;
         if line.starts_with(b"drift") {
-            writeln!(out, " -> {}", Answer(cycle::drift(cycle, &ticks)))
+            writeln!(out, " -> {}", Answer(cycle::drift(cycle, ticks)))
         } else {
             writeln!(out, " -> NO CASE")
         }
@@ -68,11 +69,11 @@ fn run_line(out: &mut impl Write, alloc: Global, line: &[u8]) -> io::Result<()> 
 }
 
 fn run(rt: &(impl Input + Print + AllocGlobal)) -> io::Result<()> {
-    let alloc = rt.alloc();
     let cases = input::bytes(rt)?;
-    let mut out = BufWriter::new(alloc, io::writer(rt))?;
+    let mut out = BufWriter::new(rt.alloc(), io::writer(rt))?;
+    let mut memory = [0; MOST_NUMBERS];
     for line in Lines(&cases) {
-        run_line(&mut out, alloc, line)?;
+        run_line(&mut out, &mut memory, line)?;
     }
     out.flush()
 }

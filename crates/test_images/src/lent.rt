@@ -29,32 +29,68 @@ fn work_garbage(place: usize, call: usize) -> u32 {
 }
 
 impl Memory {
-    // Garbage, which depends on the call's index.
-    pub(crate) fn garbage(alloc: Global, call: usize) -> Result<Memory, AllocError> {
+    // Memory of zeros, to be filled for each call.
+    pub(crate) fn zeros(alloc: Global) -> Result<Memory, AllocError> {
         Ok(Memory {
-            output: (0..OUTPUT)
-                .map(|place| output_garbage(place, call))
-                .collect(alloc)?,
-            work: (0..WORK)
-                .map(|place| work_garbage(place, call))
-                .collect(alloc)?,
+            output: vec![in alloc; 0; OUTPUT]?,
+            work: vec![in alloc; 0; WORK]?,
         })
     }
 
-    // This memory after a call with an effect.
-    pub(crate) fn after(&self, case: &Case, effect: &Effect) -> Result<Memory, AllocError> {
-        let mut output = self.output.clone()?;
-        let mut work = self.work.clone()?;
-        for (k, x) in output
-            .iter_mut()
-            .skip(effect.start)
-            .take(effect.phases)
-            .enumerate()
-        {
-            *x = case.phase(k);
+    // Fills all of it with garbage, which depends on the call's index.
+    pub(crate) fn fill_garbage(&mut self, call: usize) {
+        for (place, x) in (0..OUTPUT).zip(&mut self.output) {
+            *x = output_garbage(place, call);
         }
-        let need = effect.need.min(work.len());
-        work[..need].fill(0);
-        Ok(Memory { output, work })
+        for (place, x) in (0..WORK).zip(&mut self.work) {
+            *x = work_garbage(place, call);
+        }
+    }
+}
+
+/// What lent memory must hold after a call. It is computed anew at each place, so that no second
+/// memory is needed.
+#[derive(Clone, Copy)]
+pub struct Expected<'a> {
+    /// The case.
+    pub case: &'a Case<'a>,
+    /// What the call writes.
+    pub effect: Effect,
+    /// The call's index, which the garbage depends on.
+    pub call: usize,
+}
+
+impl<'a> Expected<'a> {
+    // The number at a place of the output.
+    fn output(&self, place: usize) -> u16 {
+        match place.checked_sub(self.effect.start) {
+            Some(k) if k < self.effect.phases => self.case.phase(k),
+            _ => output_garbage(place, self.call),
+        }
+    }
+
+    // The number at a place of the work memory.
+    fn work(&self, place: usize) -> u32 {
+        if place < self.effect.need {
+            0
+        } else {
+            work_garbage(place, self.call)
+        }
+    }
+
+    // How many numbers of the output are other than expected.
+    pub(crate) fn output_differences(&self, output: &[u16]) -> usize {
+        let numbers = (0..OUTPUT).zip(output);
+        numbers
+            .filter(|(place, x)| **x != self.output(*place))
+            .count()
+    }
+
+    // How many numbers of the work memory are other than expected.
+    pub(crate) fn work_differences(&self, work: &[u32]) -> usize {
+        let numbers = (0..WORK).zip(work);
+        numbers
+            .filter(|(place, x)| **x != self.work(*place))
+            .count()
     }
 }

@@ -22,7 +22,7 @@ mod tally;
 
 use case::{Case, Cases};
 use filter::Engine;
-use lent::Memory;
+use lent::{Expected, Memory};
 use std::alloc::{AllocError, Global};
 use std::io;
 use std::io::{BufWriter, Write};
@@ -50,17 +50,14 @@ impl Counts {
 
 // Makes a call of an engine on garbage of its own, and counts its effect beside the expected one.
 fn run_engine(
-    alloc: Global,
+    memory: &mut Memory,
     tally: &mut Tally,
     engine: Engine,
     case: &Case,
     readings: &[u16],
     call: usize,
 ) -> Result<(), AllocError> {
-    let mut memory = Memory::garbage(alloc, call)?;
-    let expected = case.expected_effect(engine);
-    let effect = expected.unwrap_or_default();
-    let expected_memory = memory.after(case, &effect)?;
+    memory.fill_garbage(call);
     let answer = filter::run(
         engine,
         case.shape,
@@ -69,14 +66,25 @@ fn run_engine(
         &mut memory.output,
         &mut memory.work,
     );
-    tally.add_answer(answer, expected.map(|_| ()));
-    tally.add_output(case, &effect, &memory.output, &expected_memory.output);
-    tally.add_work(&effect, &memory.work, &expected_memory.work);
+    let effect = case.expected_effect(engine);
+    tally.add_answer(answer, effect.map(|_| ()));
+    let expected = Expected {
+        case,
+        effect: effect.unwrap_or_default(),
+        call,
+    };
+    tally.add_output(&expected, &memory.output);
+    tally.add_work(&expected, &memory.work);
     Ok(())
 }
 
 // Runs a case on both engines. An image that has no room counts as a difference.
-fn run_case(alloc: Global, counts: &mut Counts, case: &Case) -> Result<(), AllocError> {
+fn run_case(
+    alloc: Global,
+    memory: &mut Memory,
+    counts: &mut Counts,
+    case: &Case,
+) -> Result<(), AllocError> {
     if MOST_READINGS < case.area {
         counts.level.differences = counts.level.differences.saturating_add(1);
         return Ok(());
@@ -85,7 +93,7 @@ fn run_case(alloc: Global, counts: &mut Counts, case: &Case) -> Result<(), Alloc
     let level = counts.images.saturating_mul(2);
     let reading = level.saturating_add(1);
     run_engine(
-        alloc,
+        memory,
         &mut counts.level,
         Engine::Level,
         case,
@@ -93,7 +101,7 @@ fn run_case(alloc: Global, counts: &mut Counts, case: &Case) -> Result<(), Alloc
         level,
     )?;
     run_engine(
-        alloc,
+        memory,
         &mut counts.reading,
         Engine::Reading,
         case,
@@ -105,9 +113,10 @@ fn run_case(alloc: Global, counts: &mut Counts, case: &Case) -> Result<(), Alloc
 }
 
 fn run_all(alloc: Global, numbers: &[u16]) -> Result<Counts, AllocError> {
+    let mut memory = Memory::zeros(alloc)?;
     let mut counts = Counts::default();
     for case in Cases(numbers) {
-        run_case(alloc, &mut counts, &case)?;
+        run_case(alloc, &mut memory, &mut counts, &case)?;
     }
     Ok(counts)
 }
@@ -130,12 +139,17 @@ fn print(rt: &(impl Print + AllocGlobal), bytes: usize, counts: &Counts) -> io::
     out.flush()
 }
 
-fn run(rt: &(impl Input + Print + AllocGlobal)) -> io::Result<()> {
-    let alloc = rt.alloc();
+// How many bytes standard input has, and its numbers. The bytes themselves are not kept.
+fn read(rt: &(impl Input + AllocGlobal)) -> io::Result<(usize, Vec<u16>)> {
     let bytes = input::bytes(rt)?;
-    let numbers: Vec<u16> = bytes.chunks(2).map(number).collect(alloc)?;
-    let counts = run_all(alloc, &numbers)?;
-    print(rt, bytes.len(), &counts)
+    let numbers = bytes.chunks(2).map(number).collect(rt.alloc())?;
+    Ok((bytes.len(), numbers))
+}
+
+fn run(rt: &(impl Input + Print + AllocGlobal)) -> io::Result<()> {
+    let (bytes, numbers) = read(rt)?;
+    let counts = run_all(rt.alloc(), &numbers)?;
+    print(rt, bytes, &counts)
 }
 
 fn main(rt: HostRuntime) -> io::Result<()> {

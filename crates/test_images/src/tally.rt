@@ -1,6 +1,6 @@
 //! What is counted of an engine's calls.
 
-use crate::case::{Case, Effect};
+use crate::lent::Expected;
 use refusal::Refusal;
 use std::fmt;
 use test_support::cases::nth;
@@ -28,11 +28,6 @@ fn add(count: &mut usize, n: usize) {
     *count = count.saturating_add(n);
 }
 
-// How many places of two lists differ.
-fn differences<T: PartialEq>(a: &[T], b: &[T]) -> usize {
-    a.iter().zip(b).filter(|(x, y)| x != y).count()
-}
-
 impl Tally {
     // Counts the answer of a call beside the one that is expected.
     pub(crate) fn add_answer(
@@ -50,28 +45,24 @@ impl Tally {
     }
 
     // Counts the numbers of the output beside those that are expected.
-    pub(crate) fn add_output(
-        &mut self,
-        case: &Case,
-        effect: &Effect,
-        output: &[u16],
-        expected: &[u16],
-    ) {
+    pub(crate) fn add_output(&mut self, expected: &Expected, output: &[u16]) {
+        let effect = expected.effect;
         let phases = effect.phases;
         let range = output.iter().enumerate().skip(effect.start).take(phases);
-        let moved_phases = range.filter(|(place, x)| **x != nth(case.numbers, *place));
+        let moved_phases = range.filter(|(place, x)| **x != nth(expected.case.numbers, *place));
         add(&mut self.rows, effect.rows);
         add(&mut self.phases, phases);
         add(&mut self.moved_phases, moved_phases.count());
         add(&mut self.other_output, output.len().saturating_sub(phases));
-        add(&mut self.differences, differences(output, expected));
+        add(&mut self.differences, expected.output_differences(output));
     }
 
     // Counts the work numbers beside those that are expected.
-    pub(crate) fn add_work(&mut self, effect: &Effect, work: &[u32], expected: &[u32]) {
+    pub(crate) fn add_work(&mut self, expected: &Expected, work: &[u32]) {
+        let need = expected.effect.need;
         add(&mut self.zeros, work.iter().filter(|x| **x == 0).count());
-        add(&mut self.other_work, work.len().saturating_sub(effect.need));
-        add(&mut self.differences, differences(work, expected));
+        add(&mut self.other_work, work.len().saturating_sub(need));
+        add(&mut self.differences, expected.work_differences(work));
     }
 }
 

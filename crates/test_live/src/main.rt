@@ -29,14 +29,15 @@ use test_support::cases::MOST_NUMBERS;
 use test_support::input::Lines;
 use test_support::{cases, input};
 
-// Pushes the readings of a text.
+// Pushes the readings of a text, which are stored in lent memory.
 fn push_all<W: Write>(
     report: &mut Report<W>,
-    alloc: Global,
+    memory: &mut [u16],
     run: &mut Run,
     text: &[u8],
 ) -> io::Result<()> {
-    for reading in cases::readings(alloc, text, MOST_NUMBERS)?.iter() {
+    let count = cases::store_readings(text, memory);
+    for reading in &memory[..count] {
         run.push(report, *reading)?;
     }
     Ok(())
@@ -45,7 +46,7 @@ fn push_all<W: Write>(
 // Pushes the readings of a text, with a reset at each `r`, the first letter of that word.
 fn play<W: Write>(
     report: &mut Report<W>,
-    alloc: Global,
+    memory: &mut [u16],
     run: &mut Run,
     text: &[u8],
 ) -> io::Result<()> {
@@ -53,12 +54,17 @@ fn play<W: Write>(
         if k > 0 {
             run.reset(report)?;
         }
-        push_all(report, alloc, run, readings)?;
+        push_all(report, memory, run, readings)?;
     }
     Ok(())
 }
 
-fn run_case<W: Write>(report: &mut Report<W>, alloc: Global, case: &Case) -> io::Result<()> {
+fn run_case<W: Write>(
+    report: &mut Report<W>,
+    alloc: Global,
+    memory: &mut [u16],
+    case: &Case,
+) -> io::Result<()> {
     match case {
         Case::Live {
             cycle,
@@ -66,7 +72,7 @@ fn run_case<W: Write>(report: &mut Report<W>, alloc: Global, case: &Case) -> io:
             wakes,
         } => {
             let mut run = Run::begin(report, *cycle, *length)?;
-            play(report, alloc, &mut run, wakes)?;
+            play(report, memory, &mut run, wakes)?;
             write!(report.out, "; {}", Members(&run.window))
         }
         Case::Row {
@@ -74,8 +80,8 @@ fn run_case<W: Write>(report: &mut Report<W>, alloc: Global, case: &Case) -> io:
             length,
             wakes,
         } => {
-            let row = cases::readings(alloc, wakes, MOST_NUMBERS)?;
-            rows::run(report, alloc, *cycle, *length, &row)
+            let count = cases::store_readings(wakes, memory);
+            rows::run(report, alloc, *cycle, *length, &memory[..count])
         }
         Case::Forged { window, wakes } => {
             let mut run = Run {
@@ -83,7 +89,7 @@ fn run_case<W: Write>(report: &mut Report<W>, alloc: Global, case: &Case) -> io:
                 has_history: false,
             };
             write!(report.out, " {}", Members(&run.window))?;
-            play(report, alloc, &mut run, wakes)
+            play(report, memory, &mut run, wakes)
         }
     }
 }
@@ -95,11 +101,12 @@ fn run(rt: &(impl Input + Print + AllocGlobal)) -> io::Result<()> {
         out: BufWriter::new(alloc, io::writer(rt))?,
         tally: Tally::default(),
     };
+    let mut memory = [0; MOST_NUMBERS];
     for line in Lines(&cases) {
         report.out.write_all(line)?;
         write!(report.out, " ->")?;
         match Case::parse(alloc, line)? {
-            Some(case) => run_case(&mut report, alloc, &case)?,
+            Some(case) => run_case(&mut report, alloc, &mut memory, &case)?,
             None => write!(report.out, " NO CASE")?,
         }
         writeln!(report.out)?;

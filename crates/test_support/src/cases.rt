@@ -28,12 +28,15 @@ fn digit(byte: u8, base: u32) -> Option<u32> {
     Some(u32::from(digit)).filter(|digit| *digit < base)
 }
 
-// The number of a run of digits, or the largest `u32` if that is less.
-fn number(digits: &[u8], base: u32) -> u32 {
-    digits.iter().filter_map(|byte| digit(*byte, base)).fold(
-        0,
-        |n: u32, digit| n.saturating_mul(base).saturating_add(digit),
-    )
+// Lays a number behind those that are laid, so many times, as far as there is room; how many are
+// laid then.
+fn lay(numbers: &mut [u32], count: usize, times: usize, number: u32) -> usize
+    requires { count ≤ length numbers.old }
+    ensures { result ≤ length numbers.new }
+{
+    let end = numbers.len().min(count.saturating_add(times));
+    numbers[count..end].fill(number);
+    end
 }
 
 /// Lays the numbers of a text at the start of lent memory, as far as there is room; how many are
@@ -41,61 +44,87 @@ fn number(digits: &[u8], base: u32) -> u32 {
 ///
 /// The letter `f` of `of` takes the last number back, which stays in memory until another is laid
 /// over it. What is not laid stays as it was: in a memory of zeros, 0 stands for a missing number.
+/// A number of more than 32 bits is the largest `u32`.
 pub fn numbers(text: &[u8], base: u32, numbers: &mut [u32]) -> usize
     ensures { result ≤ length numbers.new }
 {
     let mut count = 0;
     let mut times = 1;
-    for word in text.chunk_by(|a, b| digit(*a, base).is_some() && digit(*b, base).is_some()) {
-        match word {
-            b"f" if count > 0 => {
-                count -= 1;
-                times = numbers[count] as usize;
-            }
-            [first, ..] if digit(*first, base).is_some() => {
-                let end = numbers.len().min(count.saturating_add(times));
-                numbers[count..end].fill(number(word, base));
-                count = end;
-                times = 1;
-            }
-            _ => {}
+    // The number of the digits just read, where there are any.
+    let mut number = None;
+    for byte in text {
+        if let Some(digit) = digit(*byte, base) {
+            let n: u32 = number.unwrap_or(0);
+            number = Some(n.saturating_mul(base).saturating_add(digit));
+            continue;
         }
+        if let Some(n) = number.take() {
+            count = lay(numbers, count, times, n);
+            times = 1;
+        }
+        if *byte == b'f' && count > 0 {
+            count -= 1;
+            times = numbers[count] as usize;
+        }
+    }
+    match number {
+        Some(n) => lay(numbers, count, times, n),
+        None => count,
+    }
+}
+
+// Stores the first numbers of a text, each converted, as far as there is room; how many are stored.
+fn store_converted<T: Copy, F: Fn(u32) -> T>(
+    text: &[u8],
+    base: u32,
+    memory: &mut [T],
+    convert: F,
+) -> usize
+    requires { (state : F) (x : _) → F.pre state x }
+    ensures { result ≤ length memory.new }
+{
+    let mut laid = [0; MOST_NUMBERS];
+    let count = numbers(text, base, &mut laid).min(memory.len());
+    for (place, n) in memory.iter_mut().zip(&laid[..count]) {
+        *place = convert(*n);
     }
     count
 }
 
-// The first `most` numbers of a text, each converted.
-fn convert_numbers<T: Copy, F: Fn(u32) -> T>(
-    alloc: Global,
-    text: &[u8],
-    base: u32,
-    most: usize,
-    convert: F,
-) -> Result<Vec<T>, AllocError>
-    requires { (state : F) (x : _) → F.pre state x }
-    ensures { IfOk result (λ numbers. vec_len numbers ≤ most) }
+/// Stores the decimal numbers of a text at the start of lent memory, each modulo 65,536, as far as
+/// there is room; how many are stored.
+pub fn store_readings(text: &[u8], memory: &mut [u16]) -> usize
+    ensures { result ≤ length memory.new }
 {
-    let mut memory = [0; MOST_NUMBERS];
-    let count = numbers(text, base, &mut memory);
-    memory[..count]
-        .iter()
-        .take(most)
-        .map(|n| convert(*n))
-        .collect(alloc)
+    store_converted(text, DECIMAL, memory, |n| (n % 65536) as u16)
+}
+
+/// Stores the hexadecimal numbers of a text at the start of lent memory, each modulo 256, as far as
+/// there is room; how many are stored.
+pub fn store_bytes(text: &[u8], memory: &mut [u8]) -> usize
+    ensures { result ≤ length memory.new }
+{
+    store_converted(text, HEXADECIMAL, memory, |n| (n % 256) as u8)
 }
 
 /// The first `most` decimal numbers of a text, each modulo 65,536.
 pub fn readings(alloc: Global, text: &[u8], most: usize) -> Result<Vec<u16>, AllocError>
     ensures { IfOk result (λ readings. vec_len readings ≤ most) }
 {
-    convert_numbers(alloc, text, DECIMAL, most, |n| (n % 65536) as u16)
+    let mut readings = vec![in alloc; 0; most.min(MOST_NUMBERS)]?;
+    let count = store_readings(text, &mut readings);
+    readings.truncate(count);
+    Ok(readings)
 }
 
 /// The first `most` hexadecimal numbers of a text, each modulo 256.
 pub fn bytes(alloc: Global, text: &[u8], most: usize) -> Result<Vec<u8>, AllocError>
     ensures { IfOk result (λ bytes. vec_len bytes ≤ most) }
 {
-    convert_numbers(alloc, text, HEXADECIMAL, most, |n| (n % 256) as u8)
+    let mut bytes = vec![in alloc; 0; most.min(MOST_NUMBERS)]?;
+    let count = store_bytes(text, &mut bytes);
+    bytes.truncate(count);
+    Ok(bytes)
 }
 
 /// A text up to the first of a byte, and what follows it; all of it and nothing, if it lacks the

@@ -2,5 +2,5 @@
 use Rattle.std.proofs.Common.{length, ◌≤◌}
 use Rattle.test_support.proofs.cases.numbers.Given as goal
 
-abbrev pub invariant-loop-word : goal.invariant-loop-word
-invariant-loop-word l = l.count ≤ length l.numbers
+abbrev pub invariant-loop-byte : goal.invariant-loop-byte
+invariant-loop-byte l = l.count ≤ length l.numbers
