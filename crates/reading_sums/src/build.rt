@@ -111,7 +111,10 @@ impl<'a> Built<'a> {
             let l = mask - 1 - m;
             let start = l * columns;
             self.count(0, m, &mut changes[..columns + l], gains, row, other);
-            copy(&mut planes[start..start + columns], &changes[l..l + columns]);
+            copy(
+                &mut planes[start..start + columns],
+                &changes[l..l + columns],
+            );
         }
         changes[..columns + mask].fill(0);
     }
