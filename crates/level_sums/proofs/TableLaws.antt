@@ -96,7 +96,7 @@ filling_turn {c} {table} {k} {v} f h some g e = record {
         rw d (omega (arith, v_small, get_or-set_same table k v 0 (omega (arith, f.len))))
     all l (no d) = omega (arith, get_or-set_other table k l v 0 d, f.small l)
 
--- filled up to place c, and with the first round copied over the second, it is the table of the cycle
+-- filled up to place c, and with the first round copied over the second, it is the cycle's table
 pub filling_all : {c : ℕ} {table front back second : List ℕ} {k : ℕ} → IsFilledTo c table k → k ≡ c
     → c ≤ level_cycle → front ≡ take c table → back ≡ drop c table → second ≡ front
     → IsTable c (front ++ (second ++ drop c back))

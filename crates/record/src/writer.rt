@@ -41,6 +41,7 @@ fn bytes_needed(shape: Shape) -> usize
 }
 
 /// The tests of the writer, with room for so many bytes: 1 to 3 on the shape, then 6, 7 and 9.
+#[tactic(auto, unfolding(refusal::specs::Outcome::first_due))]
 pub fn check_write(shape: Shape, readings: &[u16], room: usize) -> Result<(), Refusal>
     ensures { outcome result ≡ first_due (write_rules shape readings.now room) tt }
 {

@@ -28,6 +28,20 @@ fn work_garbage(place: usize, call: usize) -> u32 {
     ((place % 4294967291 * 2654435761 + call % 4294967291 * 40503) % 4294967291 + 1) as u32
 }
 
+// Fills an output with garbage.
+fn fill_output(output: &mut [u16], call: usize) {
+    for (place, x) in (0..OUTPUT).zip(output) {
+        *x = output_garbage(place, call);
+    }
+}
+
+// Fills work memory with garbage.
+fn fill_work(work: &mut [u32], call: usize) {
+    for (place, x) in (0..WORK).zip(work) {
+        *x = work_garbage(place, call);
+    }
+}
+
 impl Memory {
     // Memory of zeros, to be filled for each call.
     pub(crate) fn zeros(alloc: Global) -> Result<Memory, AllocError> {
@@ -39,12 +53,8 @@ impl Memory {
 
     // Fills all of it with garbage, which depends on the call's index.
     pub(crate) fn fill_garbage(&mut self, call: usize) {
-        for (place, x) in (0..OUTPUT).zip(&mut self.output) {
-            *x = output_garbage(place, call);
-        }
-        for (place, x) in (0..WORK).zip(&mut self.work) {
-            *x = work_garbage(place, call);
-        }
+        fill_output(&mut self.output, call);
+        fill_work(&mut self.work, call);
     }
 }
 

@@ -20,7 +20,8 @@ loop-q-init c = record { adding = begun_none; lowest_so_far = sym (lowest-none _
 pub lower-least-requires : goal.lower-least-requires
 lower-least-requires c =
     let l = c.loop-q in (
-      rw (sum-here (goal.at.lower-least-requires c).In-loop-q) (c.requires.signed l.q (omega arith)),
+      rw (sum-here (goal.at.lower-least-requires c).In-loop-q)
+          (c.requires.signed l.q (omega arith)),
       rw l.invariant.lowest_so_far (lowest-signed _ l.q),
     )
 
